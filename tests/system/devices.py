@@ -111,6 +111,8 @@ def parts(check):
         ran = check.run(words, env=check.calls(fail=f"write {k} {k} {errno.ENOSPC}"))
         check.wants(f"devices: {words}: part {k} fails", ran, 1, None, fault)
         told.append(ran.out)
+    ran = check.run("sim plan.txt sessions.txt long.txt", env=check.calls(part=f"write {PART}", fail=f"write 50 50 {errno.ENOSPC}"))
+    check.wants("devices: a part fails amid its bytes", ran, 1, lines[: PART * 49], fault)
     whole = told[:2] == [b"", b""] and all(len(it) < len(next_one) and lines.startswith(next_one) and next_one.endswith(b"\n") for it, next_one in zip(told[1:], told[2:]))
     check.say(f"devices: {words}: the parts before stand", None if whole else f"of {len(lines)} bytes there are {[len(it) for it in told[1:]]}")
     left = [it for it in ("unmade", "unmade.txt") if os.path.lexists(os.path.join(check.work, it))]

@@ -192,12 +192,12 @@ def notes_of(noted):
     return [(call, at, answer, bytes.fromhex(text)) for call, at, answer, text in lines]
 
 
-def calls_of(noted):
-    """The calls on the store and its folder, and those that tell what stands."""
+def calls_of(noted, name=NAME):
+    """The calls on the store of that name and its folder, and those that tell what stands."""
     names, calls = {}, []
     for call, at, answer, text in notes_of(noted):
         if call == "open":
-            names[answer] = {NAME.encode(): "store", b".": "folder"}.get(text)
+            names[answer] = {name.encode(): "store", b".": "folder"}.get(text)
             calls += [f"open {names[answer]}"] if names[answer] else []
         elif names.get(at):
             calls.append(f"{call} {names[at]}")

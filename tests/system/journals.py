@@ -18,6 +18,46 @@ MOST_EVENTS = 1_000_000
 # How much of a word is shown, how long a line is, and bytes that may not stand in one: the least and the greatest of each kind.
 SHOWN, LONGEST, BAD = 60, 200, (0x00, 0x08, 0x0B, 0x1F, 0x7F, 0x80, 0xFF)
 
+# Journals of one office, where the other's has its first line alone, and what an audit prints.
+OF_A, NOTHING = b"journal 1 run 42 office a\n", b"unfinished 0\nvalue x 100\nvalue y 0\n"
+READ = (
+    (b"journal 1 run 42 office b", NOTHING),
+    (b"\tjournal  1 run 00042 office b \r\n", NOTHING),
+    (OF_A + b"00 do start = done\n 015 do work 0001000 = done", b"unwoven a 1\n"),
+    (OF_A + b"0 took 445001010000002A000100000000000000010000000000000000030001 = taken\n", b"unwoven a 1\n"),
+    (OF_A + b"0 took 4450 = taken\n", b"unwoven a 1\n"),
+    (OF_A + b"0 do start = done\n0 send b 1 = frame 4450\n0 do start = done\n", b"unwoven a 1\n"),
+    (OF_A + b"0 send b 0 = frame 445001020000002a000100000000000000000000000000000000\n0 took " + b"00" * 40 + b" = early\n", b"unwoven a 2\n"),
+    (OF_A + b"0 took 445001010000002a010000000000000000010000000000000001040001000000000000000000 = taken\n", b"unwoven a 1\n"),
+    (OF_A + b"0 submit 232061206e6f74650a73657373696f6e2020610a202067697665202831290a656e64 = ticket 4294967295\n", b"unwoven a 1\n"),
+    (OF_A + b"0 submit 232061206e6f74650a73657373696f6e2020610a202067697665202831290a656e64 = ticket 1\n", b"unfinished 1\nvalue x 100\nvalue y 0\n"),
+    (OF_A + b"0 submit 73657373696f6e20620a6769766520320a656e640a = ticket 1\n", b"unwoven a 1\n"),
+    (OF_A + b"0 send b 9223372036854775807 = frame 445001020000002a000100000000000000000000000000000001\n", b"unwoven a 1\n"),
+)
+# Two offices that share nothing, and the journal of the first.
+APART = b"plan 1 run 7\noffice a -\noffice b -\n"
+ALONE = (
+    (
+        b"journal 1 run 7 office a\n0 submit 73657373696f6e20610a6769766520310a656e640a = ticket 1\n0 do start = done\n0 do hungry = done\n"
+        b"0 do eat = done\n0 do drink = done\n0 do leave = done\n0 do work 9 = done\n0 do finish = done\n",
+        b"a.1 done reads - writes - gives 1\nunfinished 0\n",
+    ),
+    (b"journal 1 run 7 office a\n1 submit 73657373696f6e20610a6769766520310a656e640a = ticket 1\n2 withdraw 1 = done\n", b"unfinished 0\n"),
+)
+# Two journals, and what is said first.
+OF_B, ODD = b"journal 1 run 42 office b\n", b"journal 1 run 42 office b\n0 took 4 = taken\n"
+FIRST = (
+    (OF_B, OF_B, r"2\.journal: J2 JournalHeader"),
+    (OF_A, OF_A + b"0 do start = done\n", r"2\.journal: J2 JournalHeader"),
+    (OF_B, OF_A.replace(b"42", b"43"), r"2\.journal: line 1: J2 JournalHeader"),
+    (OF_B, OF_A.replace(b" a", b" c"), r"2\.journal: line 1: J2 JournalHeader"),
+    (OF_B.replace(b"42", b"43"), ODD, r"1\.journal: line 1: J2 JournalHeader"),
+    (OF_A, ODD, r"2\.journal: line 2: J1 Journal"),
+    (OF_B, ODD, r"2\.journal: line 2: J1 Journal"),
+    (OF_B, b"", r"2\.journal: J1 Journal"),
+    (ODD, b"", r"1\.journal: line 2: J1 Journal"),
+)
+
 
 def audits(check):
     """What journals tell together."""
@@ -48,6 +88,8 @@ def whole(check):
     for name, ours, theirs, status, out, err in (
         ("whole", a, b, 0, MOVED, ""),
         ("a neighbour that wrote nothing down", a, b[:1], 1, b"unwoven a 7\n", ""),
+        ("bytes that are no frame", a, [b[0], b"0 took 4450 = taken\n"], 1, b"unwoven b 1\n", ""),
+        ("digits of a frame in upper case", a, [b[0], entry.replace(b"2a", b"2A"), *b[2:]], 0, MOVED, ""),
         ("five entries", a[:6], b, 1, b"unwoven b 1\n", ""),
         ("six entries", a[:7], b, 0, b"unfinished 1\nvalue x 100\nvalue y 0\n", ""),
         ("a rule left out", [it for it in a if it != b"0 do hungry = done\n"], b, 1, b"unwoven a 3\n", ""),
@@ -63,8 +105,34 @@ def whole(check):
     three = os.path.join(CASES, "three_offices")
     texts = [os.path.join(three, it) for it in ("plan.txt", "sessions.txt", "script.txt")]
     check.wants("audit: the journals of three offices", check.run(["sim", *texts, "--journals", "three"]), 0, None, b"")
-    for order in itertools.permutations("abc"):
-        check.wants(f"audit: the journals of {' '.join(order)}", check.run(["audit", texts[0], *(f"three/{it}.journal" for it in order)]), 0, THREE, b"")
+    for name, folder in (("left", "three"), ("typed", os.path.join(CASES, "three_journals"))):
+        audit = lambda order: check.run(["audit", texts[0], *(os.path.join(folder, f"{it}.journal") for it in order)])
+        for order in itertools.permutations("abc"):
+            check.wants(f"audit: the journals of {' '.join(order)} as they were {name}", audit(order), 0, THREE, b"")
+        for order in ("acc", "aac"):
+            check.wants(f"audit: the journals of {' '.join(order)} as they were {name}", audit(order), 1, b"", rf"\Adrink: [^\n]*/{order[1]}\.journal: J2 JournalHeader: ")
+
+
+def read_alone(check):
+    """The journal of one office of two: read, whichever words it spells a frame or a session with; then the first entry that no schedule
+    has is named."""
+    check.files({"moved.txt": SHARED})
+    for text, out in READ:
+        other = b"a" if b"office b" in text else b"b"
+        check.files({"alone.journal": text, "silent.journal": b"journal 1 run 42 office %s\n" % other})
+        check.wants(f"audit: {text[-60:]!r}", check.run("audit moved.txt alone.journal silent.journal"), 1 if b"unwoven" in out else 0, out, b"")
+    check.files({"apart.txt": APART, "silent.journal": b"journal 1 run 7 office b\n"})
+    for text, out in ALONE:
+        check.files({"alone.journal": text})
+        for words in ("alone.journal silent.journal", "silent.journal alone.journal"):
+            check.wants(f"audit: {words}: {out!r}", check.run(f"audit apart.txt {words}"), 0, out, b"")
+
+
+def first_faults(check):
+    """Of two journals the first that is at fault is told."""
+    for first, second, said in FIRST:
+        check.files({"moved.txt": SHARED, "1.journal": first, "2.journal": second})
+        check.wants(f"audit: {first[:40]!r} and {second[-40:]!r}", check.run("audit moved.txt 1.journal 2.journal"), 1, b"", rf"\Adrink: {said}\b[^\n]*\n\Z")
 
 
 def of_case(name):

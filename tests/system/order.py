@@ -2,7 +2,7 @@
 import os, re, shutil
 
 from common import at_ports, free_ports
-from disks import notes_of
+from disks import calls_of, notes_of
 from serve import Service
 from sockets import FEWER_TURNS
 
@@ -78,6 +78,25 @@ def order(check):
             wrong = run(check, sync, check.calls(noted=noted)) or stands_first(acts_of(noted), sync == "data")
             beside.kill()
             check.say(f"order: {run.__name__[3:]} --sync {sync}: what is sent and told stands before", wrong)
+    without_syncs(check)
+
+
+def without_syncs(check):
+    """A store that is made or gone on from with --sync none is held, and synced with its folder, and again once its last line was cut off;
+    then it is written alone."""
+    words, noted = f"run order.txt a own.txt --turns 2 --store {STORE} --sync none", os.path.join(check.work, "noted")
+    opened = ["open store", "flock store", "fsync store", "open folder", "fsync folder"]
+    check.files({"own.txt": b"session a\nend\nsession a\nend\n"})
+    check.forget(STORE)
+    for name, more, torn, cut in (("made", " --new", b"", []), ("gone on from", "", b"0 do st", ["ftruncate store", "fsync store"])):
+        if torn:
+            check.files({STORE: check.bytes_of(STORE) + torn})
+        ran = check.run(words + more, env=check.calls(noted=noted))
+        check.wants(f"order: --sync none: {name}", ran, 0, None, b"")
+        calls = calls_of(noted, STORE)
+        first = opened + cut
+        check.equal(f"order: --sync none: {name}: the first calls", calls[: len(first)], first)
+        check.equal(f"order: --sync none: {name}: the others are writes", sorted({*calls[len(first) :]} - {"write store"}), [])
 
 
 def sessions_of(office):

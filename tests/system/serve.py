@@ -41,6 +41,8 @@ ASKED = [
     ("the ticket 0", b"ticket 0\n" + ONE, b"refused S1 Syntax line 1\n"),
     ("a line between a ticket and its session", b"ticket 1\ngive 1\n" + ONE, b"refused S1 Syntax line 2\n"),
     ("the longest line, and one that is longer", b"#" * 1_048_576 + b"\n" + b"#" * 1_048_577 + b"\n" + ONE, b"refused S5 TooLong line 2\nticket 1\n" + DONE % (1, b"1")),
+    ("a session with the longest line", b"session a\n#" + b" " * 1_048_575 + b"\nend\n", b"ticket 1\n" + DONE % (1, b"-")),
+    ("a session with a longer line, and one after it", b"session a\n#" + b" " * 1_048_576 + b"\nend\n" + ONE, b"refused S5 TooLong line 2\nticket 1\n" + DONE % (1, b"1")),
     ("a ticket without a session", b"ticket 1\nvalue y\n", b"refused S1 Syntax line 2\nvalue y 8\n"),
 ]
 

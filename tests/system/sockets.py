@@ -45,21 +45,30 @@ def secret(one, other, key=KEY):
 BOTH = secret("a", "b") + secret("c", "a", KEY[::-1])
 NO_KEY = "K1 Secret: the last word is no key: that is 32 to 128 hexadecimal digits, an even number of them"
 NO_FORM = "K1 Secret: a line has the form `secret A B HEX`, and this one hasn't"
+NO_NAME = "K1 Secret: `{}` is no name: a letter, then at most 15 letters, digits or _, and none of session, let, set, give, require, if, else, repeat, end and read"
 WITHOUT = "K4 NoSecret: no line has the secret with `{}`, and the office needs one with each of its neighbours"
 SECRETS = (
     ("one for each neighbour", BOTH, None),
     ("digits in upper case, a comment, and a blank line", b"# ours\n\n" + secret("a", "b", KEY.upper()) + secret("a", "c"), None),
     ("16 bytes, and 64", secret("a", "b", b"0f" * 16) + secret("a", "c", b"f0" * 64), None),
     ("a last line without its end", b"# with the shop\n" + BOTH[:-1], None),
+    ("tabs, two spaces and CR LF", b"\t" + BOTH.replace(b" a", b"\ta  ").replace(b"\n", b"\r\n") + b"\t#\r\n\n", None),
+    ("of others too", BOTH.replace(b"c a", b"d c") + secret("a", "c"), "line 2: K2 NotNeighbours: `d` and `c` are no neighbours in the plan"),
     ("2 bytes", secret("a", "b", b"0001"), f"line 1: {NO_KEY}"),
     ("15 bytes", secret("a", "b", b"0f" * 15) + secret("a", "c"), f"line 1: {NO_KEY}"),
     ("65 bytes", secret("a", "b") + secret("a", "c", b"0f" * 65), f"line 2: {NO_KEY}"),
     ("an odd number of digits", secret("a", "b", KEY + b"0"), f"line 1: {NO_KEY}"),
     ("a digit that is none", secret("a", "b", KEY[:-1] + b"g"), f"line 1: {NO_KEY}"),
+    ("a number of another notation", secret("a", "b", b"0x" + KEY[2:]), f"line 1: {NO_KEY}"),
+    ("a key in two words", secret("a", "b", KEY[:20] + b" " + KEY[20:]), f"line 1: {NO_FORM}"),
+    ("a word that is no name", secret("end", "b"), f"line 1: {NO_NAME.format('end')}"),
+    ("another word that is no name", secret("a", "1b"), f"line 1: {NO_NAME.format('1b')}"),
+    ("a byte that may not stand", b"\n" + secret("a", "b", KEY + b" \x7f"), "line 2: K1 Secret: byte 7F in column 45 is neither a tab nor printable ASCII"),
     ("no key", b"secret a b\n", f"line 1: {NO_FORM}"),
     ("a word too many", secret("a", "b", KEY + b" 0"), f"line 1: {NO_FORM}"),
     ("another first word", b"secrets a b %s\n" % KEY, f"line 1: {NO_FORM}"),
     ("an office that the plan hasn't", b"\n" + secret("a", "e"), "line 2: K2 NotNeighbours: the plan has no office `e`"),
+    ("an office in capital letters", secret("A", "b"), "line 1: K2 NotNeighbours: the plan has no office `A`; it has `a`, and capital letters count"),
     ("two offices without a pair", BOTH + secret("b", "c"), "line 3: K2 NotNeighbours: `b` and `c` are no neighbours in the plan"),
     ("an office with itself", secret("a", "a"), "line 1: K2 NotNeighbours: `a` and `a` are no neighbours in the plan"),
     ("a pair twice", BOTH + secret("a", "b"), "line 3: K3 SecretTwice: `a` and `b` have a secret on a line above"),
@@ -68,7 +77,17 @@ SECRETS = (
     ("no secret at all", b"# secret a b %s\n" % KEY, WITHOUT.format("b")),
     ("none with the second neighbour", secret("a", "b"), WITHOUT.format("c")),
     ("a faulty line, and none with a neighbour", secret("a", "b") + b"secret a c\n", f"line 2: {NO_FORM}"),
+    ("a pair twice, between other lines", secret("a", "b") + b"\n" + secret("a", "b"), "line 3: K3 SecretTwice: `a` and `b` have a secret on a line above"),
+    ("two lines of a pair, the first of which is faulty", secret("c", "a", b"00") + secret("c", "a"), f"line 1: {NO_KEY}"),
     ("two faulty lines", secret("a", "d") + secret("a", "b", b"0"), "line 1: K2 NotNeighbours: `a` and `d` are no neighbours in the plan"),
+)
+# The same of the office b, between a and c, and what a file is refused for.
+IN_A_ROW = b"plan 1 run 5\noffice a -\noffice b -\noffice c -\npair a b fork a\npair c b fork b\n"
+SECRETS_OF_B = (
+    ("both, the later first", secret("c", "b") + secret("a", "b"), None),
+    ("the second alone", secret("c", "b"), WITHOUT.format("a")),
+    ("the first alone", secret("a", "b"), WITHOUT.format("c")),
+    ("two that are no neighbours", secret("a", "c") + b"secret a\n", "line 1: K2 NotNeighbours: `a` and `c` are no neighbours in the plan"),
 )
 
 # Plans of offices with addresses in place of the braces: of two, the second without one, and three of which the last has none and is no
@@ -138,6 +157,8 @@ def runs(check):
     of_the_other_version(check)
     broken(check)
     never_reached(check)
+    heard_alone(check)
+    never_met(check)
     without_sockets(check)
     without_threads(check)
     two_processes(check)
@@ -155,6 +176,8 @@ def told_whole(check):
     check.files({"p": AWAY.format(f"{HOST}:{one}", f"{HOST}:{other}").encode(), "s": GIVES + b"session a\ngive read x\nend\nsession b\ngive read x\nend\n"})
     said = b"drink: a.2 waits for x from b, which was never heard\ndrink: a never heard b at 127.0.0.1:%d\n" % other
     check.wants("run: the second session needs a neighbour", check.run("run p a s --turns 20"), 1, GAVE + b"unfinished 1\n", said)
+    for it in "ps":
+        check.forget(it)
 
 
 def one_turn(check):
@@ -192,8 +215,8 @@ def secrets(check):
 
 def texts_of_secrets(check):
     """What a file of secrets is refused for. Who may use it is looked at before what it has."""
-    plan = at_ports(FOUR, free_ports(4))
-    check.files({"three.txt": plan, "open.txt": b"no secret\n"})
+    plan, row = at_ports(FOUR, free_ports(4)), at_ports(IN_A_ROW, free_ports(3))
+    check.files({"three.txt": plan, "row.txt": row, "nothing.txt": b"", "open.txt": b"no secret\n"})
     os.chmod(os.path.join(check.work, "open.txt"), 0o644)
     words, answer = "run three.txt a own.txt --turns 5 --secrets", b"a.1 done reads x=5 writes - gives 5\nunfinished 0\n"
     for at, (name, text, fault) in enumerate(SECRETS):
@@ -202,6 +225,11 @@ def texts_of_secrets(check):
         os.chmod(os.path.join(check.work, file), 0o600)
         wanted = (1, b"", f"drink: {file}: {fault}; nothing was run\n".encode()) if fault else (0, answer, b"")
         check.wants(f"run: secrets: {name}", check.run(f"{words} {file}"), *wanted)
+    for name, text, fault in SECRETS_OF_B:
+        check.files({"of_b.txt": text})
+        os.chmod(os.path.join(check.work, "of_b.txt"), 0o600)
+        wanted = (1, b"", f"drink: of_b.txt: {fault}; nothing was run\n".encode()) if fault else (0, b"unfinished 0\n", b"")
+        check.wants(f"run: secrets of an office in the middle: {name}", check.run("run row.txt b nothing.txt --turns 5 --secrets of_b.txt"), *wanted)
     check.wants("run: secrets: open to others, and no text of them", check.run(f"{words} open.txt"), 1, b"", r"\Adrink: open\.txt: K5 OpenToOthers: [^\n]*\n\Z")
 
 
@@ -421,6 +449,38 @@ def never_reached(check):
         check.wants(f"run: a neighbour that was never reached: {words}", ran, 1, b"unfinished 1\n", said)
 
 
+def heard_alone(check):
+    """A neighbour of which something came is told as heard, and how long ago; where the system takes no frame for it, it was never
+    reached, whatever came of it."""
+    own = b"session b\ngive read x\nend\n"
+    for name, told, remarks in (
+        ("heard", {}, rb"drink: b\.1 waits for x from a, which was heard less than a second ago\n"),
+        ("heard and never reached", {"fail": f"sendto 1 {ALL} {errno.ECONNREFUSED}"}, rb"drink: b\.1 waits for x from a, which was heard less than a second ago\ndrink: b never reached a at 127\.0\.0\.1:\d+: Connection refused \(os error 111\)\n"),
+    ):
+        if told and not shutil.which("cc"):
+            continue
+        with Door() as a:
+            other = free_ports(1)[0]
+            check.files({"ports.txt": at_ports(PLAN, (a.port, other)), "fetches.txt": own})
+            run = started(check, "run ports.txt b fetches.txt --turns 200", **({"env": check.calls(**told)} if told else {}))
+            while run.poll() is None:
+                a.socket.sendto(frame(1, A, B, 0, 0), (HOST, other))
+                time.sleep(0.02)
+            ran = ended(run)
+        check.wants(f"run: a neighbour that was {name}", ran, 1, b"unfinished 1\n", rf"\A{remarks.decode()}\Z")
+
+
+def never_met(check):
+    """Of two neighbours one was never reached, and one never heard: each is told after the sessions, with the system's cause."""
+    if not shutil.which("cc"):
+        return
+    one, other, third = free_ports(3)
+    check.files({"row.txt": at_ports(IN_A_ROW + b"record x a b 5 at a\n", (one, other, third)), "fetches.txt": b"session b\ngive read x\nend\n"})
+    ran = check.run("run row.txt b fetches.txt --turns 100", env=check.calls(fail=f"sendto 1 {ALL} {errno.ENETUNREACH}"))
+    said = f"drink: b.1 waits for x from a, which was never heard\ndrink: b never reached a at 127.0.0.1:{one}: Network is unreachable (os error 101)\ndrink: b never heard c at 127.0.0.1:{third}\n"
+    check.wants("run: one neighbour was never reached, and one never heard", ran, 1, b"unfinished 1\n", said.encode())
+
+
 def without_sockets(check):
     """Each office has its socket before any of them begins: where the system refuses one an address, nothing is done."""
     if not shutil.which("cc"):
@@ -432,6 +492,10 @@ def without_sockets(check):
     for k in (1, 2):
         for cause, words in ((errno.EADDRINUSE, "the address is in use"), (errno.EADDRNOTAVAIL, "this machine has no such address"), (errno.EACCES, "permission denied")):
             check.wants(f"live: socket {k} has no address: {words}", binds(k, cause), 1, b"", rf"\Adrink: U2 BindFailed: [^\n]*: {words}\n\Z")
+    three = [os.path.join(CASES, "three_offices", it) for it in ("plan.txt", "sessions.txt")]
+    for k in (1, 2, 3):
+        ran = check.run(["live", *three], env=check.calls(fail=f"bind {k} {k} {errno.EADDRINUSE}"))
+        check.wants(f"live: socket {k} of three has no address", ran, 1, b"", r"\Adrink: U2 BindFailed: [^\n]*: the address is in use\n\Z")
     check.equal("live: without a socket no journal is written", os.path.exists(os.path.join(check.work, "unbound", "a.journal")), False)
     check.wants("live: no third socket has an address", binds(3, errno.EADDRINUSE), 0, OWN + b"unfinished 0\n", b"")
 
@@ -455,6 +519,11 @@ def without_threads(check):
         check.wants(f"live: thread {k} can't be started", starts(k), 1, stands, said)
     check.wants("live: no fifth thread is started", starts(5), 0, OWN + b"unfinished 0\n", b"")
     words = [os.path.join(CASES, "three_offices", it) for it in ("plan.txt", "sessions.txt")]
+    for k in range(1, 7):
+        ran = check.run(["live", *words, "--journals", f"threads{k}"], env=check.calls(fail=f"pthread_create {k} {k} {errno.EAGAIN}"))
+        check.wants(f"live: thread {k} of three offices can't be started", ran, 1, r"(?m)^unfinished \d\n\Z", r"(?m)^drink: U3 NoThread: [^\n]*\n\Z")
+        audit = check.run(["audit", words[0], *(f"threads{k}/{it}.journal" for it in "abc")])
+        check.wants(f"live: thread {k} of three offices can't be started: their journals", audit, 0, r"(?m)^unfinished \d$", b"")
     none = check.run(["live", *words], env=check.calls(fail=f"pthread_create 1 {ALL} {errno.EAGAIN}"))
     said = "".join(rf"drink: {it}\.1 was not submitted yet\n" for it in "abc") + "".join(rf"drink: {it} never heard {it_not} at 127\.0\.0\.1:\d+\n" for it, it_not in ("ab", "ba", "bc", "cb"))
     end = "drink: U3 NoThread: no further thread can be started; the run ended with it, and what was done before is printed\n"
