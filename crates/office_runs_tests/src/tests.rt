@@ -14,7 +14,6 @@ use std::thread::Threads;
 
 mod memory;
 mod rooms;
-mod sockets;
 mod threads;
 mod turns;
 

@@ -1,4 +1,2 @@
 mod language;
-mod machine;
 mod replay;
-mod requests;

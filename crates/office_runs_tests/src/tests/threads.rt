@@ -52,39 +52,6 @@ fn offices_run_at_the_same_time(rt: HostRuntime) -> Result<(), Fail> {
     Ok(())
 }
 
-/// Says no to the thread with that number, from 0.
-#[derive(Drop)]
-struct NoThreadAt {
-    asked: AtomicU64,
-    refused: u64,
-}
-
-impl Gate for NoThreadAt {
-    fn before(&self, _office: OfficeId) {}
-
-    fn may_start(&self) -> bool {
-        self.asked.fetch_add(1, Ordering::SeqCst) != self.refused
-    }
-}
-
-/// Whichever thread can't be started, the run ends with that, and says what stands: the journals of all offices.
-#[test]
-fn a_thread_that_cannot_be_started_is_told(rt: HostRuntime) -> Result<(), Fail> {
-    for refused in 0..6 {
-        let gate = NoThreadAt {
-            asked: AtomicU64::new(0),
-            refused,
-        };
-        let ran = live_in_memory(&rt, rt.alloc(), ROW, ROW_SESSIONS, true, u64::MAX, &gate)?;
-        assert_eq!(rt;
-            ran.map(|ran| (ran.fault, ran.journals.len())),
-            Ok((Some(RunFault::NoThread), 3)),
-            "thread {refused}"
-        );
-    }
-    Ok(())
-}
-
 /// Says no to the second office's first thread, once who submits the first one's sessions has ended.
 #[derive(Drop)]
 struct NoThreadAfter<'a> {

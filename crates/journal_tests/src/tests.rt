@@ -1,3 +1,0 @@
-mod audit;
-mod stores;
-mod texts;

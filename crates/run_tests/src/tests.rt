@@ -1,2 +1,0 @@
-mod drawn;
-mod remarks;
