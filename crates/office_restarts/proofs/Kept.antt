@@ -23,12 +23,14 @@ use Rattle.site_core.specs.Journals.{Site, office_of, noted, recorded, step}
 use Rattle.frame_world.specs.declared.event.WorldEvent.{WorldEvent}
 use Rattle.frame_world.specs.declared.event.WorldEvent.TheVariants as happening
 use Rattle.frame_world.specs.Worlds.{World, opening, run_of, frames_of}
+use Rattle.frame_world.specs.Termination.{is_submit}
 use Rattle.journal_weave.specs.Weaving.{untagged, entries_at}
 use Rattle.journal_weave.specs.Following.{site_of, Gives}
 use Rattle.journal_weave.specs.FrameLaws.{AreAmong, are_among_themselves, among_left, both_among}
 use Rattle.journal_weave.specs.refinement.Merging.{IsEventAt, Has, Follows}
 use Rattle.journal_weave.proofs.AcceptedEvents.{sound_opening, sound, nothing_told}
 use Rattle.journal_weave.proofs.Merging.{has_more, frames_after}
+use Rattle.office_restarts.specs.Termination.{brought_by}
 use Rattle.office_restarts.specs.Lives.{Lives, Happening, Handed, Stored, Left, Lost, newborn, site_in, standing, answered, handed, arrives, happens, leaves, after, goes_on}
 use Rattle.office_restarts.proofs.Parts.{GivesAll, get_first, gives_untagged, gives_first, gives_one_more, last_or_before}
 
@@ -104,28 +106,29 @@ kept_newborn plan = record {
 abbrev with_journal : Lives → ℕ → List Entry → Lives
 with_journal l a xs = record { plan = l.plan; journal = put l.journal a xs; stood = l.stood; left = l.left }
 
-pub record Accepted (l l' : Lives) : Type 0 where
+pub record Accepted (l l' : Lives) (of : WorldEvent) : Type 0 where
   pub place : ℕ
   pub entry : Entry
   pub inside : place < length l.plan.offices
   pub gives : Gives (site_of l.plan place (l.journal place)) entry
   pub comes : (f : Fields) → entry.event ≡ event.Took f → CameFrom l.left place f
+  pub brings : is_submit of ≡ false → (b : ℕ) → brought_by l.plan b entry.event ≡ 0
   pub led : l' ≡ with_journal l place (l.journal place ++ entry ∷ [])
 
-abbrev Leaves : Lives → Lives → Type 0
-Leaves l l' = (l' ≡ l) ⊎ Accepted l l'
+abbrev Leaves : Lives → Lives → WorldEvent → Type 0
+Leaves l l' of = (l' ≡ l) ⊎ Accepted l l' of
 
 abbrev Stepped : Type 0
 Stepped = Result Reply Refusal × Site
 
-handed_leaves : (l : Lives) (a tag : ℕ) (e : Event) → ((f : Fields) → e ≡ event.Took f → CameFrom l.left a f) → Leaves l (handed l a tag e)
-handed_leaves l a tag e comes = by_place (nat_lt a (length l.plan.offices)) refl
+handed_leaves : (l : Lives) (a tag : ℕ) (e : Event) (of : WorldEvent) → ((f : Fields) → e ≡ event.Took f → CameFrom l.left a f) → (is_submit of ≡ false → (b : ℕ) → brought_by l.plan b e ≡ 0) → Leaves l (handed l a tag e) of
+handed_leaves l a tag e of comes brings = by_place (nat_lt a (length l.plan.offices)) refl
   where
     s : Site
     s = site_in l a
 
     by_room : (r : Reply) (o : Office) → answer l.plan a (office_of s) e ≡ Ok (r, o) → nat_lt a (length l.plan.offices) ≡ true → (full : Bool) → nat_le most_entries (length (l.journal a)) ≡ full →
-        Leaves l (answered l a (cond {A = Stepped} full (Err refusal.JournalFull, s) (Ok r, noted s tag e r)))
+        Leaves l (answered l a (cond {A = Stepped} full (Err refusal.JournalFull, s) (Ok r, noted s tag e r))) of
     by_room r o ans inside true room = inl refl
     by_room r o ans inside false room = inr (record {
       place = a;
@@ -133,31 +136,32 @@ handed_leaves l a tag e comes = by_place (nat_lt a (length l.plan.offices)) refl
       inside = grind (arith, nat_tests, inside);
       gives = gives_untagged l.plan a (l.journal a) (record { tag = tag; event = e; reply = r }) o ans room;
       comes = comes;
+      brings = brings;
       led = refl;
     })
 
-    by_answer : (x : Answer) → answer l.plan a (office_of s) e ≡ x → nat_lt a (length l.plan.offices) ≡ true → Leaves l (answered l a (recorded s tag e x))
+    by_answer : (x : Answer) → answer l.plan a (office_of s) e ≡ x → nat_lt a (length l.plan.offices) ≡ true → Leaves l (answered l a (recorded s tag e x)) of
     by_answer (Ok x) ans inside = by_room x.0 x.1 ans inside (nat_le most_entries (length (l.journal a))) refl
     by_answer (Err r) ans inside = inl refl
 
-    by_place : (b : Bool) → nat_lt a (length l.plan.offices) ≡ b → Leaves l (cond b (answered l a (step s tag e)) l)
+    by_place : (b : Bool) → nat_lt a (length l.plan.offices) ≡ b → Leaves l (cond b (answered l a (step s tag e)) l) of
     by_place true inside = by_answer (answer l.plan a (office_of s) e) refl inside
     by_place false inside = inl refl
 
-pub happens_leaves : (l : Lives) (tag : ℕ) (e : WorldEvent) → Leaves l (happens l tag e)
-happens_leaves l tag (happening.Submit a p) = handed_leaves l a tag (event.Submit p) (λ f i. cc)
-happens_leaves l tag (happening.Withdraw a t) = handed_leaves l a tag (event.Withdraw t) (λ f i. cc)
-happens_leaves l tag (happening.Do a r) = handed_leaves l a tag (event.Do r) (λ f i. cc)
-happens_leaves l tag (happening.Send a v i) = handed_leaves l a tag (event.Send v i) (λ f i. cc)
+pub happens_leaves : (l : Lives) (tag : ℕ) (e : WorldEvent) → Leaves l (happens l tag e) e
+happens_leaves l tag (happening.Submit a p) = handed_leaves l a tag (event.Submit p) (happening.Submit a p) (λ f i. cc) (λ i b. cc)
+happens_leaves l tag (happening.Withdraw a t) = handed_leaves l a tag (event.Withdraw t) (happening.Withdraw a t) (λ f i. cc) (λ i b. refl)
+happens_leaves l tag (happening.Do a r) = handed_leaves l a tag (event.Do r) (happening.Do a r) (λ f i. cc) (λ i b. refl)
+happens_leaves l tag (happening.Send a v i) = handed_leaves l a tag (event.Send v i) (happening.Send a v i) (λ f i. cc) (λ i b. refl)
 happens_leaves l tag (happening.Deliver zero) = inl refl
 happens_leaves l tag (happening.Deliver (suc k)) = of (slice_get l.left k) refl
   where
-    of : (f : Option Fields) → slice_get l.left k ≡ f → Leaves l (arrives l tag f)
+    of : (f : Option Fields) → slice_get l.left k ≡ f → Leaves l (arrives l tag f) (happening.Deliver (suc k))
     of None e = inl refl
-    of (Some f) e = handed_leaves l f.to tag (event.Took f) (λ g i. let one : f ≡ g = cc in (ap (λ (z : Fields). z.to) (sym one), k, e ∙ ap Some one))
+    of (Some f) e = handed_leaves l f.to tag (event.Took f) (happening.Deliver (suc k)) (λ g i. let one : f ≡ g = cc in (ap (λ (z : Fields). z.to) (sym one), k, e ∙ ap Some one)) (λ i b. refl)
 
-kept_accepted : (plan : PlanValue) (l l' : Lives) → Accepted l l' → Kept plan l → Kept plan l'
-kept_accepted plan l l' c k = subst (Kept plan) (sym c.led) (record {
+kept_accepted : (plan : PlanValue) (l l' : Lives) (of : WorldEvent) → Accepted l l' of → Kept plan l → Kept plan l'
+kept_accepted plan l l' of c k = subst (Kept plan) (sym c.led) (record {
   planned = k.planned;
   at = record {
     schedule = k.at.schedule;
@@ -307,7 +311,7 @@ kept_lost plan l a n k = record {
     w = run_of (opening l.plan) k.at.schedule
 
 pub kept_after : (plan : PlanValue) (l : Lives) (h : Happening) → Kept plan l → Kept plan (after l h)
-kept_after plan l (Handed tag e) k = ⊎_elim (λ same. subst (Kept plan) (sym same) k) (λ c. kept_accepted plan l (happens l tag e) c k) (happens_leaves l tag e)
+kept_after plan l (Handed tag e) k = ⊎_elim (λ same. subst (Kept plan) (sym same) k) (λ c. kept_accepted plan l (happens l tag e) e c k) (happens_leaves l tag e)
 kept_after plan l (Stored a n) k = kept_stored plan l a n k
 kept_after plan l (Left a i) k = kept_leaves plan l a i (slice_get (standing l a) i) refl k
 kept_after plan l (Lost a n) k = kept_lost plan l a n k

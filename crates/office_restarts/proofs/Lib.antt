@@ -1,3 +1,5 @@
 mod Parts
 mod Kept
 mod Restarts
+mod StepsStand
+mod GoingOn

@@ -77,8 +77,8 @@ as_it_was l l' a same = ([], same ∙ sym (append-nil (standing l a)))
 longer_part : {X : Type 0} (s t : ℕ) (xs : List X) → s ≤ t → (rest : List X) × (take t xs ≡ take s xs ++ rest)
 longer_part s t xs le = (drop s (take t xs), sym (take-append-drop s (take t xs)) ∙ ap (λ l. l ++ drop s (take t xs)) (take-take s t xs le))
 
-stays_accepted : (l l' : Lives) (a : ℕ) → ((b : ℕ) → l.stood b ≤ length (l.journal b)) → Accepted l l' → Stays l l' a
-stays_accepted l l' a within c = subst (λ z. Stays l z a) (sym c.led) (as_it_was l (record { plan = l.plan; journal = put l.journal c.place (l.journal c.place ++ c.entry ∷ []); stood = l.stood; left = l.left }) a
+stays_accepted : (l l' : Lives) (a : ℕ) (of : WorldEvent) → ((b : ℕ) → l.stood b ≤ length (l.journal b)) → Accepted l l' of → Stays l l' a
+stays_accepted l l' a of within c = subst (λ z. Stays l z a) (sym c.led) (as_it_was l (record { plan = l.plan; journal = put l.journal c.place (l.journal c.place ++ c.entry ∷ []); stood = l.stood; left = l.left }) a
     (put_cases l.journal c.place (l.journal c.place ++ c.entry ∷ []) a (λ xs. take (l.stood a) xs ≡ standing l a)
     (λ i. take-append-le (l.stood a) (l.journal c.place) (c.entry ∷ []) (subst (λ b. l.stood a ≤ length (l.journal b)) i (within a)) ∙ ap (λ b. take (l.stood a) (l.journal b)) (sym i))
     (λ ne. refl)))
@@ -99,8 +99,8 @@ stays_lost l b n a = as_it_was l (after l (Lost b n)) a
     (λ i. take-take (l.stood a) (l.stood b + n) (l.journal b) (omega (arith, ap l.stood i)) ∙ ap (λ c. take (l.stood a) (l.journal c)) (sym i))
     (λ ne. refl))
 
-stays_after : (l : Lives) (h : Happening) (a : ℕ) → ((b : ℕ) → l.stood b ≤ length (l.journal b)) → Stays l (after l h) a
-stays_after l (Handed tag e) a within = ⊎_elim (λ same. as_it_was l (happens l tag e) a (ap (λ z. standing z a) same)) (stays_accepted l (happens l tag e) a within) (happens_leaves l tag e)
+pub stays_after : (l : Lives) (h : Happening) (a : ℕ) → ((b : ℕ) → l.stood b ≤ length (l.journal b)) → Stays l (after l h) a
+stays_after l (Handed tag e) a within = ⊎_elim (λ same. as_it_was l (happens l tag e) a (ap (λ z. standing z a) same)) (stays_accepted l (happens l tag e) a e within) (happens_leaves l tag e)
 stays_after l (Stored b n) a within = stays_stored l b n a within
 stays_after l (Left b i) a within = stays_left l (slice_get (standing l b) i) a
 stays_after l (Lost b n) a within = stays_lost l b n a

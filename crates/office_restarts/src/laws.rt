@@ -1,7 +1,9 @@
 //! What holds of offices that are lost and opened again.
 
 ghost use Rattle.office_restarts.specs.Restarts.{RestartsAreOneWorld, WhatStoodStands};
+ghost use Rattle.office_restarts.specs.Termination.{FewStepsStand, OfficesThatGoOnFinish};
 
+use frame_world::laws::{never_stuck, steps_use_up_work};
 use journal_weave::laws::woven_is_serial;
 
 /// Offices that are lost and opened again from what stood of their journals, of which no frame left before its entry stood, are
@@ -16,3 +18,19 @@ pub fn restarts_are_one_world()
 pub fn what_stood_stands()
     ensures { WhatStoodStands }
 {}
+
+/// Whatever is lost and done again, only so many steps ever stand: as many as the plan starts with work, and the sessions brought.
+pub fn few_steps_stand()
+    ensures { FewStepsStand }
+{
+    steps_use_up_work();
+}
+
+/// Offices that go on, each with its rounds and with a frame of each message that waits, come to a time at which no session is left
+/// of all that stand, however often they are lost; if nothing more is submitted.
+pub fn offices_that_go_on_finish()
+    ensures { OfficesThatGoOnFinish }
+{
+    steps_use_up_work();
+    never_stuck();
+}
