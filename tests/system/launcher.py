@@ -1,6 +1,7 @@
-"""The script `drink` at the top, and `tools/build`: which words build what and in which order, what answers where nothing is built or a
-source is newer, and that words go on as they are. They run in checkouts of their own, where a stand-in takes the place of rt."""
-import os, re, shutil, sys
+"""The script `drink` at the top, `tools/build` and `tools/install`: which words build what and in which order, what answers where nothing
+is built or a source is newer, that words go on as they are, and what is installed. They run in checkouts of their own, where a stand-in
+takes the place of rt."""
+import hashlib, os, re, shutil, subprocess, sys
 
 from common import ANSWER, PLAN, TOP
 
@@ -48,7 +49,7 @@ MEMORY = "/dev/shm"
 SERIAL = "serial plan.txt sessions.txt"
 WHOLE = "sim plan.txt sessions.txt script.txt"
 # Words that build nothing: other commands, help, the version, none, and what is no command line.
-OTHERS = (WHOLE, "audit nowhere.txt a.journal", "--help", "help serial", "--version", "", "seriel a b", "--build serial", "-- serial a b")
+OTHERS = (WHOLE, "audit nowhere.txt a.journal", "--help", "help serial", "--version", "", "seriel a b", "--build serial", "-- serial a b", "--install .")
 WAYS = r"\. \./drink --build proves and builds it: from nothing in about an hour[^\n]*\n\./drink serial PLAN SESSIONS [^\n]*\n\Z"
 UNBUILT, NEWER = rf"\Adrink: the program isn't built{WAYS}", rf"\Adrink: a source is newer than the program{WAYS}"
 NOT_PROVED = r"\nfn {0}::gone: not proved\ndrink: {0} was not proved, so the program was not built\n\Z"
@@ -90,7 +91,7 @@ class Checkout:
         self.below = {it: all_below(named, it) & set(named) for it in named}
         for folder in (self.top, os.path.join(self.top, "tools"), self.bin):
             os.mkdir(folder)
-        for file in ("drink", os.path.join("tools", "build")):
+        for file in ("drink", os.path.join("tools", "build"), os.path.join("tools", "install")):
             shutil.copy(os.path.join(TOP, file), os.path.join(self.top, file))
         self.write("crates.txt", crates)
         for crate in named:
@@ -151,6 +152,7 @@ def launcher(check):
         few.fails("--build", crate)
     few.wants("not built", "--build", 0, b"", rf"{few.built('drink')}\Z", "drink")
     passed_on(check, few)
+    installed(check, few)
     newer(few)
     changed(few)
     with open(os.path.join(TOP, "crates.txt"), encoding="utf-8") as file:
@@ -201,6 +203,28 @@ def passed_on(check, few):
     few.wants("built", "--build serial", 2, b"", r"\Adrink: unexpected argument '--build'")
     few.wants("built", "", 2, b"", "Usage: drink")
     check.wants("launcher: built: <&-", check.shell(f"'{linked}' serial plan.txt - <&-"), 1, b"", r"\Adrink: -: X4 ReadFailed: [^\n]*closed")
+
+
+def installed(check, few):
+    """The program is put into a folder whole, for all to run, also in the place of one that runs; elsewhere nothing is left of it."""
+    place, blocked = os.path.join(check.work, "a place"), os.path.join(check.work, "blocked")
+    os.makedirs(os.path.join(blocked, "drink"))
+    os.mkdir(place)
+    older = shutil.copy(shutil.which("sleep"), os.path.join(place, "drink"))
+    with open(check.program, "rb") as file:
+        made = file.read()
+    with subprocess.Popen([older, "100"]) as running:
+        told = f"{hashlib.sha256(made).hexdigest()}  a place/drink\n".encode()
+        few.wants("built", ["--install", "a place"], 0, told, b"", preexec_fn=lambda: os.umask(0o077))
+        running.kill()
+    with open(older, "rb") as file:
+        check.equal("launcher: the program that was installed", (file.read() == made, os.stat(older).st_mode & 0o777), (True, 0o755))
+    for words, said in (([""], ": there is no such folder"), (["nowhere"], "nowhere: there is no such folder"), (["plan.txt"], "plan.txt: there is no such folder")):
+        few.wants("built", ["--install", *words], 1, b"", f"drink: {said}\n".encode())
+    few.wants("built: a folder in the way", ["--install", "blocked"], 1, b"", "cannot overwrite directory")
+    check.equal("launcher: what is left of it", (os.listdir(place), os.listdir(blocked), os.listdir(os.path.join(blocked, "drink"))), (["drink"], ["drink"], []))
+    for words in ("--install", "--install . ."):
+        few.wants("built", words, 2, b"", r"\Adrink: unexpected argument '--install'")
 
 
 def newer(few):

@@ -1,8 +1,9 @@
 """The runs that README.md and docs/manual.md print: each is run, and what it writes compared with what they print; those of offices side by
-side, of one that is killed, and of the chapter 'Every day' at ports of this machine that nobody has."""
-import itertools, os, re, shutil, signal, subprocess
+side, of one that is killed, of the chapter 'Every day', and of the till that asks on its next morning, at ports of this machine that
+nobody has."""
+import itertools, os, re, shutil, signal, subprocess, threading, time
 
-from common import TOP, at_ports, free_ports
+from common import SECONDS, TOP, at_ports, free_ports
 from restarts import line_of
 from serve import Service
 from sockets import FEWER_TURNS, ended
@@ -61,7 +62,7 @@ def is_after_a_run(block):
 def printed_runs(check, name):
     """The runs that a document prints, and those that it only gives."""
     found = blocks(parted(name)[0])
-    is_run = lambda block: "./drink" in block and not re.search(r"--build|drink run ", block) and not is_after_a_run(block)
+    is_run = lambda block: "./drink" in block and not re.search(r"--build|--install|drink run |till\.py", block) and not is_after_a_run(block)
     printed = 0
     for at, (block, _, after) in enumerate(found):
         if not is_run(block):
@@ -97,9 +98,9 @@ def room_of(check, name, example, count):
     return room, ports
 
 
-def started_in(room, block):
+def started_in(room, block, **how):
     """What a block starts, as a process of its own."""
-    return subprocess.Popen(["/bin/sh", "-c", f"exec {block}"], cwd=room, stdout=subprocess.PIPE, stderr=subprocess.PIPE)
+    return subprocess.Popen(["/bin/sh", "-c", f"exec {block}"], cwd=room, stdout=subprocess.PIPE, stderr=subprocess.PIPE, **how)
 
 
 def two_terminals(check):
@@ -143,8 +144,8 @@ def as_the_manual_says(check):
 class Branch(Service):
     """An office that a block of the chapter starts, in this folder."""
 
-    def __init__(self, room, block):
-        self.process, self.said = started_in(room, block), b""
+    def __init__(self, room, block, **how):
+        self.process, self.said = started_in(room, block, **how), b""
 
 
 class Day:
@@ -184,6 +185,7 @@ def branch_day(check):
         morning(day)
         evening(day, *audits[0])
         next_morning(day)
+        till(day, *till_of(blocks(parted("docs/manual.md")[0])))
 
 
 def morning(day):
@@ -213,3 +215,57 @@ def next_morning(day):
     day.stops("west in the morning", west)
     ran = day.check.shell("./drink serve tuesday.txt south --store south.store < /dev/null", cwd=day.room)
     day.check.wants("the branches' day: yesterday's store under the next plan", ran, 1, b"", r"\Adrink: south\.store: line 1: U5 StoreFaulty: [^\n]*\n\Z")
+
+
+def till_of(found):
+    """How the manual starts its till, and what that prints."""
+    return next((block.strip(), found[at + 1][0]) for at, (block, _, _) in enumerate(found) if "till.py" in block)
+
+
+def till(day, block, told):
+    """The till asks while nobody has what its session needs. Its office is killed, and started again by it. So is the till itself, with its
+    office, once the session is done; then it asks for one more, which its office doesn't take any more before it is killed."""
+    asking = Branch(day.room, block, start_new_session=True)
+    comes_to_be(day, "the till's session is submitted", lambda: day.has("west.tuesday").count(b" submit "), 1)
+    (office,) = children_of(asking.process.pid)
+    os.kill(office, signal.SIGKILL)
+    comes_to_be(day, "the till's office is another process", lambda: children_of(asking.process.pid) not in ([], [office]), True)
+    north = Branch(day.room, "./drink serve tuesday.txt north --store north.tuesday < /dev/null")
+    day.check.equal(f"docs/manual.md: {block}", asking.line(), told.encode())
+    os.killpg(asking.process.pid, signal.SIGKILL)
+    day.check.equal("the branches' day: the till says no more", asking.kill(), (b"", b""))
+    later = os.path.join(day.room, "later")
+    os.mkfifo(later)
+    again = Branch(day.room, block.replace(" -- ", " later -- "))
+    day.check.equal(f"docs/manual.md: again: {block}", again.line(), told.encode())
+    (office,) = children_of(again.process.pid)
+    os.kill(office, signal.SIGSTOP)
+    asks = threading.Thread(target=day.check.shell, args=("cat examples/branch_day/west.txt > later",), kwargs={"cwd": day.room}, daemon=True)
+    asks.start()
+    asks.join(SECONDS)
+    os.kill(office, signal.SIGKILL)
+    day.check.equal("the branches' day: what the office didn't take is asked again", again.line(), b"west.2 done reads dave=20 writes dave=25 gives 25\n")
+    day.check.equal("the branches' day: the till ends well", again.end(), (0, b"", b""))
+    day.check.equal("the branches' day: each session of the till is submitted once", day.has("west.tuesday").count(b" submit "), 2)
+    north.kill()
+
+
+def children_of(process):
+    """The processes that a process has started, and that haven't ended."""
+    found = []
+    for it in filter(str.isdigit, os.listdir("/proc")):
+        try:
+            with open(f"/proc/{it}/stat", encoding="ascii", errors="replace") as file:
+                state, parent = file.read().rpartition(")")[2].split()[:2]
+        except OSError:
+            continue
+        found += [int(it)] if int(parent) == process and state != "Z" else []
+    return found
+
+
+def comes_to_be(day, name, found, wanted):
+    """Waits until this is so."""
+    end = time.monotonic() + SECONDS
+    while found() != wanted and time.monotonic() < end:
+        time.sleep(0.02)
+    day.check.equal(f"the branches' day: {name}", found(), wanted)
