@@ -11,7 +11,7 @@ from common import PLAN, TOP, shown
 
 CASES = os.path.join(TOP, "tests", "cases")
 # How many cases and refused texts there are at least: fewer means that they weren't found.
-LEAST_CASES, LEAST_EXAMPLES, LEAST_REFUSALS = 46, 7, 200
+LEAST_CASES, LEAST_EXAMPLES, LEAST_REFUSALS = 46, 9, 200
 # The words that run a text of each kind, under the name `text`.
 KINDS = {"plans": "serial text sessions.txt", "sessions": "serial plan.txt text", "texts": "serial plan.txt text", "scripts": "sim plan.txt sessions.txt text", "journals": "audit plan.txt text"}
 # What begins a case of a table, or another input of its cases.
