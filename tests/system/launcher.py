@@ -219,6 +219,9 @@ def installed(check, few):
         running.kill()
     with open(older, "rb") as file:
         check.equal("launcher: the program that was installed", (file.read() == made, os.stat(older).st_mode & 0o777), (True, 0o755))
+    if shutil.which("ldd"):
+        needs = re.findall(r"(?m)^\t(?:\S*/)?(\S+)", check.run([older], program="ldd").out.decode())
+        check.equal("launcher: libraries that it needs, but for the C library", [it for it in needs if not re.match(r"(libc|ld-linux[\w-]*|linux-vdso)\.so\.", it)], [])
     for words, said in (([""], ": there is no such folder"), (["nowhere"], "nowhere: there is no such folder"), (["plan.txt"], "plan.txt: there is no such folder")):
         few.wants("built", ["--install", *words], 1, b"", f"drink: {said}\n".encode())
     few.wants("built: a folder in the way", ["--install", "blocked"], 1, b"", "cannot overwrite directory")
