@@ -1,5 +1,6 @@
 """The evening that examples/branch_day/evening.sh does by itself: of offices that run, killed at each of its steps and started again, of
-offices at another machine, and what it refuses. In the place of systemctl, ssh and scp stand scripts of this module."""
+offices at another machine, and what it refuses. In the place of systemctl, ssh and scp stand scripts of this module. Before it the units
+that stand beside it: that systemd reads them, and that an office stands what they forbid."""
 import fcntl, os, re, shutil, signal, subprocess, sys, time
 
 from common import SECONDS, TOP, Ran, at_ports, free_ports
@@ -158,6 +159,36 @@ def units(check):
         check.files({it: text.replace(b"/usr/local/bin/drink ", f"{check.program} ".encode())})
     ran = check.run(["verify", "./" + names[0], "./" + names[1]], program="systemd-analyze")
     check.wants("the units of examples/branch_day", ran, 0, b"", b"")
+    if shutil.which("strace"):
+        stands(check, check.bytes_of(names[0]).decode())
+    else:
+        print("not tried: whether the program stands what its unit forbids, since there is no strace")
+
+
+def stands(check, unit):
+    """An office that serves makes no call of the system that its unit forbids: here one that asks a neighbour, which isn't there."""
+    with open(os.path.join(EXAMPLES, "branch_day", "plan.txt"), "rb") as file:
+        check.files({"day.txt": at_ports(file.read(), free_ports(len(BRANCHES)))})
+    check.forget("traced.store")
+    words = "-f -qq -o trace.txt ./drink serve day.txt north --store traced.store --new --status 1 < examples/branch_day/north.txt"
+    ran = check.shell(f"timeout -s INT 4 strace {words}")
+    check.say("an office under strace", None if ran.out == b"ready 0\nticket 1\n" and b"never heard west" in ran.err else str(ran))
+    trace = check.bytes_of("trace.txt").decode(errors="replace")
+    made, sets = set(re.findall(r"(?m)^\d+ +(\w+)\(", trace)), system_calls(check)
+    allowed = set()
+    for sign, name in re.findall(r"(?m)^SystemCallFilter=(~?)(@\S+)$", unit):
+        allowed = allowed - sets[name] if sign else allowed | sets[name]
+    missing = {"fdatasync", "flock", "openat", "read", "recvfrom", "sendto", "write"} - made
+    check.equal("the calls of an office are seen, and its unit allows them", (missing, made - allowed), (set(), set()))
+    check.equal("an office writes no code, and has sockets of IPv4 alone", re.findall(r"PROT_WRITE\|PROT_EXEC|mprotect\([^)]*PROT_EXEC|socket\((?!AF_INET,)\w+", trace), [])
+
+
+def system_calls(check):
+    """By the name of a set of systemd's the calls that it has."""
+    listed = check.run("syscall-filter", program="systemd-analyze").out.decode()
+    within = {it.split()[0]: [line.strip() for line in it.splitlines()[1:] if not line.strip().startswith("#")] for it in listed.split("\n\n") if it.startswith("@")}
+    calls = lambda name: set().union(*(calls(it) if it.startswith("@") else {it} for it in within.get(name, ())))
+    return {it: calls(it) for it in within}
 
 
 def done(it):
