@@ -22,7 +22,7 @@ use Rattle.frame_world.specs.Standstill.{AllAreFinished, IsStep, sent_by, next_s
 use Rattle.frame_world.specs.WorkLeft.{work_left}
 use Rattle.frame_world.specs.Termination.{is_submit, StepsUseUpWork}
 use Rattle.office_restarts.specs.Lives.{Lives, Happening, Handed, Stored, Left, Lost, newborn, standing, happens, leaves, after, lived}
-use Rattle.office_restarts.specs.Termination.{as_it_stands, steps_told, brought_by, work_told, later, is_submission, OneMoreStands, GoOn, OfficesThatGoOnFinish}
+use Rattle.office_restarts.specs.Termination.{durable_world, entry_steps, brought_by, entry_work, later, is_submission, OneMoreIsDurable, GoOn, OfficesThatGoOnFinish}
 use Rattle.office_restarts.proofs.Kept.{Kept, Accepted, kept_newborn, happens_leaves, kept_after, kept_on}
 use Rattle.office_restarts.proofs.Restarts.{stays_after}
 use Rattle.office_restarts.proofs.StepsStand.{one_place, step_told, steps_of, work_of, stands_there, kept_few}
@@ -30,34 +30,34 @@ use Rattle.office_restarts.proofs.StepsStand.{one_place, step_told, steps_of, wo
 -- ---- nothing is brought but by a submission
 
 abbrev BringsNoMore : Lives → Lives → Type 0
-BringsNoMore l l' = (b : ℕ) → work_told l.plan b (l'.journal b) ≤ work_told l.plan b (l.journal b)
+BringsNoMore l l' = (b : ℕ) → entry_work l.plan b (l'.journal b) ≤ entry_work l.plan b (l.journal b)
 
 accepted_brings : (l l' : Lives) (e : WorldEvent) → Accepted l l' e → is_submit e ≡ false → BringsNoMore l l'
 accepted_brings l l' e c no_one b =
     omega (
       arith,
-      ap (λ (z : Lives). work_told l.plan b (z.journal b)) c.led,
-      put_cases l.journal c.place (l.journal c.place ++ c.entry ∷ []) b (λ xs. work_told l.plan b xs ≤ work_told l.plan b (l.journal b))
+      ap (λ (z : Lives). entry_work l.plan b (z.journal b)) c.led,
+      put_cases l.journal c.place (l.journal c.place ++ c.entry ∷ []) b (λ xs. entry_work l.plan b xs ≤ entry_work l.plan b (l.journal b))
           (λ is. omega (
             arith,
             sum_by_push (λ (x : Entry). brought_by l.plan b x.event) (l.journal c.place) c.entry,
             c.brings no_one b,
-            ap (λ a. work_told l.plan b (l.journal a)) is,
+            ap (λ a. entry_work l.plan b (l.journal a)) is,
           ))
           (λ ne. omega arith),
     )
 
 brings_no_more : (l : Lives) (h : Happening) → is_submission h ≡ false → BringsNoMore l (after l h)
-brings_no_more l (Handed tag e) no_one b = ⊎_elim (λ same. omega (arith, ap (λ (z : Lives). work_told l.plan b (z.journal b)) same)) (λ c. accepted_brings l (happens l tag e) e c no_one b) (happens_leaves l tag e)
+brings_no_more l (Handed tag e) no_one b = ⊎_elim (λ same. omega (arith, ap (λ (z : Lives). entry_work l.plan b (z.journal b)) same)) (λ c. accepted_brings l (happens l tag e) e c no_one b) (happens_leaves l tag e)
 brings_no_more l (Stored a n) no_one b = omega arith
 brings_no_more l (Left a k) no_one b = of (slice_get (standing l a) k)
   where
-    of : (x : Option Entry) → work_told l.plan b ((leaves l x).journal b) ≤ work_told l.plan b (l.journal b)
+    of : (x : Option Entry) → entry_work l.plan b ((leaves l x).journal b) ≤ entry_work l.plan b (l.journal b)
     of None = omega arith
     of (Some x) = omega arith
 brings_no_more l (Lost a n) no_one b =
-    put_cases l.journal a (take (l.stood a + n) (l.journal a)) b (λ xs. work_told l.plan b xs ≤ work_told l.plan b (l.journal b))
-    (λ is. omega (arith, sum_by-take-le (λ (x : Entry). brought_by l.plan b x.event) (l.journal a) (l.stood a + n), ap (λ c. work_told l.plan b (l.journal c)) is))
+    put_cases l.journal a (take (l.stood a + n) (l.journal a)) b (λ xs. entry_work l.plan b xs ≤ entry_work l.plan b (l.journal b))
+    (λ is. omega (arith, sum_by-take-le (λ (x : Entry). brought_by l.plan b x.event) (l.journal a) (l.stood a + n), ap (λ c. entry_work l.plan b (l.journal c)) is))
     (λ ne. omega arith)
 
 -- ---- endless happenings
@@ -83,12 +83,12 @@ module _ (steps : Always StepsUseUpWork) (never_stuck : NeverStuck) (plan : Plan
       omega (
         arith,
         work_falls n,
-        sum_by-le-sum_by (λ b. work_told plan b ((at (suc n)).journal b)) (λ b. work_told plan b ((at n).journal b)) (range_with_len 0 (length plan.offices))
-            (λ b. subst (λ p. work_told p b ((at (suc n)).journal b) ≤ work_told p b ((at n).journal b)) (kept n).planned (brings_no_more (at n) (happenings n) (none n) b)),
+        sum_by-le-sum_by (λ b. entry_work plan b ((at (suc n)).journal b)) (λ b. entry_work plan b ((at n).journal b)) (range_with_len 0 (length plan.offices))
+            (λ b. subst (λ p. entry_work p b ((at (suc n)).journal b) ≤ entry_work p b ((at n).journal b)) (kept n).planned (brings_no_more (at n) (happenings n) (none n) b)),
       )
 
   standing_brings : (n : ℕ) → work_of plan (standing (at n)) ≤ all_work n
-  standing_brings n = sum_by-le-sum_by (λ b. work_told plan b (standing (at n) b)) (λ b. work_told plan b ((at n).journal b)) (range_with_len 0 (length plan.offices)) (λ b. sum_by-take-le (λ (x : Entry). brought_by plan b x.event) ((at n).journal b) ((at n).stood b))
+  standing_brings n = sum_by-le-sum_by (λ b. entry_work plan b (standing (at n) b)) (λ b. entry_work plan b ((at n).journal b)) (range_with_len 0 (length plan.offices)) (λ b. sum_by-take-le (λ (x : Entry). brought_by plan b x.event) ((at n).journal b) ((at n).stood b))
 
   abbrev bound : ℕ
   bound = work_left (opening plan) + all_work 0
@@ -105,28 +105,28 @@ module _ (steps : Always StepsUseUpWork) (never_stuck : NeverStuck) (plan : Plan
       )
 
   -- steps that stand stay
-  stays : (n a : ℕ) → steps_told (standing (at n) a) ≤ steps_told (standing (at (suc n)) a)
+  stays : (n a : ℕ) → entry_steps (standing (at n) a) ≤ entry_steps (standing (at (suc n)) a)
   stays n a =
       let s = stays_after (at n) (happenings n) a (kept n).at.within in
-      omega (arith, ap steps_told s.1, sum_by-append step_told (standing (at n) a) s.0)
+      omega (arith, ap entry_steps s.1, sum_by-append step_told (standing (at n) a) s.0)
 
-  stay : (a n m : ℕ) → n ≤ m → steps_told (standing (at n) a) ≤ steps_told (standing (at m) a)
-  stay a n zero le = let is : n ≡ 0 = omega (arith, le) in omega (arith, ap (λ j. steps_told (standing (at j) a)) is)
+  stay : (a n m : ℕ) → n ≤ m → entry_steps (standing (at n) a) ≤ entry_steps (standing (at m) a)
+  stay a n zero le = let is : n ≡ 0 = omega (arith, le) in omega (arith, ap (λ j. entry_steps (standing (at j) a)) is)
   stay a n (suc m) le = ⊎_elim
       (λ lt. omega (arith, stay a n m (omega (arith, lt)), stays m a))
-      (λ ge. let is : n ≡ suc m = omega (arith, le, ge) in omega (arith, ap (λ j. steps_told (standing (at j) a)) is))
+      (λ ge. let is : n ≡ suc m = omega (arith, le, ge) in omega (arith, ap (λ j. entry_steps (standing (at j) a)) is))
       (cases_lt n (suc m))
 
   abbrev Rises : ℕ → Type 0
   Rises n = (m : ℕ) × (n ≤ m) × (total n + 1 ≤ total m)
 
-  rises : (n a : ℕ) → a < length plan.offices → OneMoreStands at n a → Rises n
+  rises : (n a : ℕ) → a < length plan.offices → OneMoreIsDurable at n a → Rises n
   rises n a inside (m, le, lt) = (
     m,
     le,
     omega (
       arith,
-      one_place (λ b. steps_told (standing (at n) b)) (λ b. steps_told (standing (at m) b)) a 1 0 (λ b ne. stay b n m le) (omega (arith, lt)) (length plan.offices) 0 (omega arith) (omega (arith, inside)),
+      one_place (λ b. entry_steps (standing (at n) b)) (λ b. entry_steps (standing (at m) b)) a 1 0 (λ b ne. stay b n m le) (omega (arith, lt)) (length plan.offices) 0 (omega arith) (omega (arith, inside)),
     ),
   )
 
@@ -142,13 +142,13 @@ module _ (steps : Always StepsUseUpWork) (never_stuck : NeverStuck) (plan : Plan
     seat : IsSeated l.plan w
     seat = seated l.plan (kept n).at.schedule
 
-    same : (a : ℕ) → office_at w a ≡ office_at (as_it_stands l) a
+    same : (a : ℕ) → office_at w a ≡ office_at (durable_world l) a
     same = stands_there l (kept n).at.schedule (kept n).at.has.entries
 
-    as_many_sent : (a b : ℕ) → sent_by w a b ≡ sent_by (as_it_stands l) a b
-    as_many_sent a b = let e : office_at w a ≡ office_at (as_it_stands l) a = same a in cc
+    as_many_sent : (a b : ℕ) → sent_by w a b ≡ sent_by (durable_world l) a b
+    as_many_sent a b = let e : office_at w a ≡ office_at (durable_world l) a = same a in cc
 
-    by_step : (s : NextStep) → IsStep w s → AllAreFinished (as_it_stands l) ⊎ Rises n
+    by_step : (s : NextStep) → IsStep w s → AllAreFinished (durable_world l) ⊎ Rises n
     by_step (next.Rule a rule) d =
         let inside : a < length l.plan.offices = omega (arith, d.of_plan, ap (λ (p : PlanValue). length p.offices) seat.planned) in
         inr (rises n a (omega (arith, inside, ap (λ (p : PlanValue). length p.offices) (kept n).planned)) (goes.rounds n a rule (record {
@@ -164,11 +164,11 @@ module _ (steps : Always StepsUseUpWork) (never_stuck : NeverStuck) (plan : Plan
         })))
     by_step next.AllFinished d = inl (λ a. ap (λ (o : Office). unfinished o.agenda) (sym (same a)) ∙ d a)
 
-    finished_or_rises : AllAreFinished (as_it_stands l) ⊎ Rises n
+    finished_or_rises : AllAreFinished (durable_world l) ⊎ Rises n
     finished_or_rises = by_step (next_step w) (never_stuck l.plan (kept n).at.schedule (subst IsAccepted (sym (kept n).planned) ok))
 
   abbrev Finishes : ℕ → Type 0
-  Finishes n = (m : ℕ) × (n ≤ m) × AllAreFinished (as_it_stands (at m))
+  Finishes n = (m : ℕ) × (n ≤ m) × AllAreFinished (durable_world (at m))
 
   ends : GoOn at → (k n : ℕ) → bound ≤ total n + k → Finishes n
   ends goes zero n le = ⊎_elim

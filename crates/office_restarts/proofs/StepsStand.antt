@@ -31,7 +31,7 @@ use Rattle.frame_world.specs.Termination.{is_step, added_by, StepsUseUpWork}
 use Rattle.journal_weave.specs.Weaving.{untagged, entries_at}
 use Rattle.journal_weave.proofs.AcceptedEvents.{grown, note, Grows, grows_to, grows, here, elsewhere, entries, reply_in, nothing_told, site_is}
 use Rattle.office_restarts.specs.Lives.{Lives, newborn, standing, lived}
-use Rattle.office_restarts.specs.Termination.{as_it_stands, steps_told, brought_by, work_told, steps_standing, work_standing, FewStepsStand}
+use Rattle.office_restarts.specs.Termination.{durable_world, entry_steps, brought_by, entry_work, durable_steps, durable_work, FewStepsStand}
 use Rattle.office_restarts.proofs.Parts.{office_untagged}
 use Rattle.office_restarts.proofs.Kept.{Kept, kept_newborn, kept_on}
 
@@ -77,10 +77,10 @@ num_cond false = refl
 -- ---- what the offices of a plan tell
 
 abbrev pub steps_of : PlanValue → (ℕ → List Entry) → ℕ
-steps_of plan told = sum_by (λ a. steps_told (told a)) (range_with_len 0 (length plan.offices))
+steps_of plan told = sum_by (λ a. entry_steps (told a)) (range_with_len 0 (length plan.offices))
 
 abbrev pub work_of : PlanValue → (ℕ → List Entry) → ℕ
-work_of plan told = sum_by (λ a. work_told plan a (told a)) (range_with_len 0 (length plan.offices))
+work_of plan told = sum_by (λ a. entry_work plan a (told a)) (range_with_len 0 (length plan.offices))
 
 -- tags are of no account
 as_untagged : (f : Entry → ℕ) → ((x : Entry) → f (untagged x) ≡ f x) → (xs : List Entry) → sum_by f (map untagged xs) ≡ sum_by f xs
@@ -113,9 +113,9 @@ module _ (plan : PlanValue) (w : World) (a : ℕ) (e : Event) (r : Reply) (insid
   steps_grown =
       omega (
         arith,
-        one_place (λ b. steps_told (entries_at w' b)) (λ b. steps_told (entries_at w b)) a 0 (num (is_step (Ok r)))
-            (λ b ne. omega (arith, ap steps_told (as_before b ne)))
-            (omega (arith, ap steps_told one_entry_more, sum_by_push step_told (entries_at w a) (note e r), num_cond (is_step (Ok r))))
+        one_place (λ b. entry_steps (entries_at w' b)) (λ b. entry_steps (entries_at w b)) a 0 (num (is_step (Ok r)))
+            (λ b ne. omega (arith, ap entry_steps (as_before b ne)))
+            (omega (arith, ap entry_steps one_entry_more, sum_by_push step_told (entries_at w a) (note e r), num_cond (is_step (Ok r))))
             (length plan.offices) 0 (omega arith) of_plan,
       )
 
@@ -123,9 +123,9 @@ module _ (plan : PlanValue) (w : World) (a : ℕ) (e : Event) (r : Reply) (insid
   work_grown =
       omega (
         arith,
-        one_place (λ b. work_told plan b (entries_at w b)) (λ b. work_told plan b (entries_at w' b)) a (brought_by plan a e) 0
-            (λ b ne. omega (arith, ap (work_told plan b) (as_before b ne)))
-            (omega (arith, ap (work_told plan a) one_entry_more, sum_by_push (λ (x : Entry). brought_by plan a x.event) (entries_at w a) (note e r)))
+        one_place (λ b. entry_work plan b (entries_at w b)) (λ b. entry_work plan b (entries_at w' b)) a (brought_by plan a e) 0
+            (λ b ne. omega (arith, ap (entry_work plan b) (as_before b ne)))
+            (omega (arith, ap (entry_work plan a) one_entry_more, sum_by_push (λ (x : Entry). brought_by plan a x.event) (entries_at w a) (note e r)))
             (length plan.offices) 0 (omega arith) of_plan,
       )
 
@@ -188,7 +188,7 @@ module _ (plan : PlanValue) (k : ℕ) where
 run_bounded : Always StepsUseUpWork → (plan : PlanValue) (events : List WorldEvent) → IsConsistent plan → AreAccepted (opening plan) events → IsBounded plan (work_left (opening plan)) (run_of (opening plan) events)
 run_bounded steps plan events c ok =
     along plan (work_left (opening plan)) (opening plan) events (seated_opening plan) (λ fs. steps plan fs c) ok
-    (omega (arith, none_at_all (λ a. steps_told (entries_at (opening plan) a)) (λ a. ap steps_told (nothing_told plan a)) (range_with_len 0 (length plan.offices))))
+    (omega (arith, none_at_all (λ a. entry_steps (entries_at (opening plan) a)) (λ a. ap entry_steps (nothing_told plan a)) (range_with_len 0 (length plan.offices))))
 
 -- ---- what stands
 
@@ -203,7 +203,7 @@ module _ (l : Lives) (events : List WorldEvent) (told : (a : ℕ) → entries_at
   seat = seated l.plan events
 
   -- each office is as it is in that world
-  pub stands_there : (a : ℕ) → office_at w a ≡ office_at (as_it_stands l) a
+  pub stands_there : (a : ℕ) → office_at w a ≡ office_at (durable_world l) a
   stands_there a = ⊎_elim
       (λ lt.
       ap office_of (site_is l.plan w a seat)
@@ -216,16 +216,16 @@ module _ (l : Lives) (events : List WorldEvent) (told : (a : ℕ) → entries_at
       ∙ sym (ap office_of (get_or_past (map (λ b. site_with l.plan b (standing l b)) (range_with_len 0 (length l.plan.offices))) a (silent l.plan a) (omega (arith, ge, length-map-range_with_len (λ b. site_with l.plan b (standing l b)) 0 (length l.plan.offices))))))
       (cases_lt a (length l.plan.offices))
 
-  as_much_left : work_left w ≡ work_left (as_it_stands l)
+  as_much_left : work_left w ≡ work_left (durable_world l)
   as_much_left = ap (λ p. work_by p (office_at w)) seat.planned ∙ ap (work_by l.plan) (fun_ext stands_there)
 
-  steps_there : steps_of l.plan (entries_at w) ≡ steps_standing l
-  steps_there = ap (λ (s : ℕ → ℕ). sum_by s (range_with_len 0 (length l.plan.offices))) (fun_ext (λ a. ap steps_told (told a) ∙ as_untagged step_told (λ x. refl) (standing l a)))
+  steps_there : steps_of l.plan (entries_at w) ≡ durable_steps l
+  steps_there = ap (λ (s : ℕ → ℕ). sum_by s (range_with_len 0 (length l.plan.offices))) (fun_ext (λ a. ap entry_steps (told a) ∙ as_untagged step_told (λ x. refl) (standing l a)))
 
-  work_there : work_of l.plan (entries_at w) ≡ work_standing l
-  work_there = ap (λ (s : ℕ → ℕ). sum_by s (range_with_len 0 (length l.plan.offices))) (fun_ext (λ a. ap (work_told l.plan a) (told a) ∙ as_untagged (λ (x : Entry). brought_by l.plan a x.event) (λ x. refl) (standing l a)))
+  work_there : work_of l.plan (entries_at w) ≡ durable_work l
+  work_there = ap (λ (s : ℕ → ℕ). sum_by s (range_with_len 0 (length l.plan.offices))) (fun_ext (λ a. ap (entry_work l.plan a) (told a) ∙ as_untagged (λ (x : Entry). brought_by l.plan a x.event) (λ x. refl) (standing l a)))
 
-pub kept_few : Always StepsUseUpWork → (plan : PlanValue) (l : Lives) → IsConsistent plan → Kept plan l → steps_standing l + work_left (as_it_stands l) ≤ work_left (opening plan) + work_standing l
+pub kept_few : Always StepsUseUpWork → (plan : PlanValue) (l : Lives) → IsConsistent plan → Kept plan l → durable_steps l + work_left (durable_world l) ≤ work_left (opening plan) + durable_work l
 kept_few steps plan l c k =
     let has = k.at.has in
     let few = run_bounded steps l.plan k.at.schedule (subst IsConsistent (sym k.planned) c) has.accepted in

@@ -17,14 +17,14 @@ use Rattle.office_restarts.specs.Lives.{Lives, Happening, Handed, Stored, Left, 
 
 -- What stands, as a world: each office is as its entries that stand tell it. Which sessions finished, in which order, isn't
 -- looked at here.
-abbrev pub as_it_stands : Lives → World
-as_it_stands l = record { plan = l.plan; sites = map (λ a. site_with l.plan a (standing l a)) (range_with_len 0 (length l.plan.offices)); frames = l.left; finished = [] }
+abbrev pub durable_world : Lives → World
+durable_world l = record { plan = l.plan; sites = map (λ a. site_with l.plan a (standing l a)) (range_with_len 0 (length l.plan.offices)); frames = l.left; finished = [] }
 
 -- ---- how many steps stand
 
 -- how many of these entries are steps: rules that are done, sessions that are withdrawn, messages that are taken
-abbrev pub steps_told : List Entry → ℕ
-steps_told = count_by (λ (x : Entry). is_step (Ok x.reply))
+abbrev pub entry_steps : List Entry → ℕ
+entry_steps = count_by (λ (x : Entry). is_step (Ok x.reply))
 
 -- what an office's event adds to what is left to do
 abbrev pub brought_by : PlanValue → ℕ → Event → ℕ
@@ -35,22 +35,22 @@ brought_by plan a (event.Took f) = 0
 brought_by plan a (event.Withdraw ticket) = 0
 
 -- and what all these entries do
-abbrev pub work_told : PlanValue → ℕ → List Entry → ℕ
-work_told plan a = sum_by (λ (x : Entry). brought_by plan a x.event)
+abbrev pub entry_work : PlanValue → ℕ → List Entry → ℕ
+entry_work plan a = sum_by (λ (x : Entry). brought_by plan a x.event)
 
 -- the steps that stand, of all offices
-abbrev pub steps_standing : Lives → ℕ
-steps_standing l = sum_by (λ a. steps_told (standing l a)) (range_with_len 0 (length l.plan.offices))
+abbrev pub durable_steps : Lives → ℕ
+durable_steps l = sum_by (λ a. entry_steps (standing l a)) (range_with_len 0 (length l.plan.offices))
 
 -- the work of all sessions whose submission stands
-abbrev pub work_standing : Lives → ℕ
-work_standing l = sum_by (λ a. work_told l.plan a (standing l a)) (range_with_len 0 (length l.plan.offices))
+abbrev pub durable_work : Lives → ℕ
+durable_work l = sum_by (λ a. entry_work l.plan a (standing l a)) (range_with_len 0 (length l.plan.offices))
 
 -- After every history, what is left to do, as it stands, and the steps that stand are together no more than what the plan starts
 -- with and what the sessions brought. So of all steps that were made, those beyond it were lost again, or don't stand yet.
 abbrev pub FewStepsStand : Type 0
 FewStepsStand = (plan : PlanValue) (history : List Happening) → IsConsistent plan →
-    steps_standing (lived plan history) + work_left (as_it_stands (lived plan history)) ≤ work_left (opening plan) + work_standing (lived plan history)
+    durable_steps (lived plan history) + work_left (durable_world (lived plan history)) ≤ work_left (opening plan) + durable_work (lived plan history)
 
 -- ---- who goes on comes to the end
 
@@ -66,18 +66,18 @@ is_submission (Left a k) = false
 is_submission (Lost a n) = false
 
 -- sooner or later a step more of the office stands
-abbrev pub OneMoreStands : (ℕ → Lives) → ℕ → ℕ → Type 0
-OneMoreStands at n a = (m : ℕ) × (n ≤ m) × (steps_told (standing (at n) a) < steps_told (standing (at m) a))
+abbrev pub OneMoreIsDurable : (ℕ → Lives) → ℕ → ℕ → Type 0
+OneMoreIsDurable at n a = (m : ℕ) × (n ≤ m) × (entry_steps (standing (at n) a) < entry_steps (standing (at m) a))
 
 -- Each office goes on with its rounds: where it may do a rule, as it stands, sooner or later one step more of it stands. And of
 -- each message that waits, as both offices stand, some frame arrives: sooner or later one step more stands of who is to take it.
 pub record GoOn (at : ℕ → Lives) : Type 0 where
-  pub rounds : (n a : ℕ) (rule : Rule) → MayDo (as_it_stands (at n)) a rule → OneMoreStands at n a
-  pub arrivals : (n a b number : ℕ) → IsNextMessage (as_it_stands (at n)) a b number → OneMoreStands at n b
+  pub rounds : (n a : ℕ) (rule : Rule) → MayDo (durable_world (at n)) a rule → OneMoreIsDurable at n a
+  pub arrivals : (n a b number : ℕ) → IsNextMessage (durable_world (at n)) a b number → OneMoreIsDurable at n b
 
 -- Where offices go on so after any history, however often they are lost, and nothing is submitted any more, then again and again
 -- no office has a session, as it stands, that is current or waits.
 abbrev pub OfficesThatGoOnFinish : Type 0
 OfficesThatGoOnFinish = (plan : PlanValue) (history : List Happening) (happenings : ℕ → Happening) → IsAccepted plan →
     ((n : ℕ) → is_submission (happenings n) ≡ false) → GoOn (later (lived plan history) happenings) →
-    (n : ℕ) → (m : ℕ) × (n ≤ m) × AllAreFinished (as_it_stands (later (lived plan history) happenings m))
+    (n : ℕ) → (m : ℕ) × (n ≤ m) × AllAreFinished (durable_world (later (lived plan history) happenings m))
