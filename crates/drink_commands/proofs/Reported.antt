@@ -30,11 +30,11 @@ pub started : (u : Unread) (bytes : Option (List ℕ)) (files : List ℕ → Opt
     → StandFor files bytes words texts → HaveTexts files u words texts
 started u bytes files words texts e h = subst (λ s. HaveTexts files s words texts) (sym e) h
 
-pub ran : (form : Form) (files : List ℕ → Option (List ℕ)) (u v w : Unread) (a b a_text b_text : List ℕ) (p : PlanValue) (programs seen : List ProgramValue) (loss : ℕ)
+pub ran : (form : Form) (files : List ℕ → Option (List ℕ)) (u v w : Unread) (a b a_text b_text : List ℕ) (p : PlanValue) (programs seen : List ProgramValue) (loss steps : ℕ)
     (old new : Option (List ℕ)) (printed : List ℕ) (world : World) (next_file unfinished : Option (List ℕ)) (kept left : Option (List File)) → TakesPlan files u a v p → TakesSessions files v b w p programs
-    → HaveTexts files u (a ∷ b ∷ []) (a_text ∷ b_text ∷ []) → seen ≡ programs → Tells form p seen loss world printed → Appends old new printed → WritesEndOf seen next_file unfinished world kept left
-    → TellsRun form a_text b_text loss next_file unfinished old new kept left
-ran form files u v w a b a_text b_text p programs seen loss old new printed world next_file unfinished kept left plan sessions (after, has, (next, has_next, more)) same told written day =
+    → HaveTexts files u (a ∷ b ∷ []) (a_text ∷ b_text ∷ []) → seen ≡ programs → Tells form p seen loss steps world printed → Appends old new printed → WritesEndOf seen next_file unfinished world kept left
+    → TellsRun form a_text b_text loss steps next_file unfinished old new kept left
+ran form files u v w a b a_text b_text p programs seen loss steps old new printed world next_file unfinished kept left plan sessions (after, has, (next, has_next, more)) same told written day =
     let it = plan a_text after has in
     record {
       both = record {
@@ -45,7 +45,7 @@ ran form files u v w a b a_text b_text p programs seen loss old new printed worl
       };
       world = world;
       printed = printed;
-      told = subst (λ ps. Tells form p ps loss world printed) same told;
+      told = subst (λ ps. Tells form p ps loss steps world printed) same told;
       written = written;
       day = subst (λ ps. WritesEndOf ps next_file unfinished world kept left) same day;
     }

@@ -88,7 +88,7 @@ IsDone Is tells files standard stores (Sim plan sessions script folder next unfi
     → StandFor files standard (plan.now ∷ sessions.now ∷ script.now ∷ []) (plan_text ∷ sessions_text ∷ script_text ∷ [])
     → Simulates (form_of json) plan_text sessions_text script_text (option_copied folder) (option_copied next) (option_copied unfinished) old new kept left
 IsDone Is tells files standard stores (Random plan sessions seed loss steps next unfinished json) status old new kept left = (plan_text sessions_text : List ℕ)
-    → StandFor files standard (plan.now ∷ sessions.now ∷ []) (plan_text ∷ sessions_text ∷ []) → TellsRun (form_of json) plan_text sessions_text loss (option_copied next) (option_copied unfinished) old new kept left
+    → StandFor files standard (plan.now ∷ sessions.now ∷ []) (plan_text ∷ sessions_text ∷ []) → TellsRun (form_of json) plan_text sessions_text loss steps (option_copied next) (option_copied unfinished) old new kept left
 IsDone Is tells files standard stores (Run plan office sessions turns file secrets json) status old new kept left = RunsOffice (Is (option_copied secrets)) (form_of json) tells files standard plan.now office.now sessions.now turns (option_copied file) (EndsWith status) old new kept left
 IsDone Is tells files standard stores (RunStored plan office sessions turns store sync is_new secrets json) status old new kept left = KeepsFiles kept left × RunsStored (Is (option_copied secrets)) (form_of json) tells files standard (stores store.now) is_new plan.now office.now sessions.now store.now turns (EndsStored status) old new
 IsDone Is tells files standard stores (Serve plan office store sync is_new secrets linger each json) status old new kept left = KeepsFiles kept left × ServesOffice (Is (option_copied secrets)) (form_of json) tells files standard (stores store.now) is_new plan.now office.now store.now standard IsServed old new

@@ -38,7 +38,7 @@ pub fn run<S: Sources, T: Targets, W: Write>(
 ) -> Result<u8, Fault>
     ensures tells { OnOk result ((plan_text sessions_text : List ℕ)
         → StandFor (S.file_text sources.now) (S.standard_text sources.now) (plan.now ∷ sessions.now ∷ []) (plan_text ∷ sessions_text ∷ [])
-        → TellsRun form plan_text sessions_text schedule.loss (option_copied next.entry) (option_copied left.entry) (W.contents out.old) (W.contents out.new) (T.written targets.old) (T.written targets.new)) }
+        → TellsRun form plan_text sessions_text schedule.loss schedule.steps (option_copied next.entry) (option_copied left.entry) (W.contents out.old) (W.contents out.new) (T.written targets.old) (T.written targets.new)) }
     ensures status { IfOk result (λ status. status ≡ 0) }
 
     ensures judged { IfErr result (IsJudged (S.file_text sources.now) (S.standard_text sources.now) (plan.now ∷ sessions.now ∷ []) (Input.Plan ∷ Input.Sessions ∷ [])) }

@@ -288,7 +288,7 @@ event_keeps w (happening.Deliver k) loss r m same = delivery_keeps w k
 
 pub after_step : (w w' : World) (loss : ℕ) (ps : List ProgramValue) → IsReached w → Steps loss w w' → length w'.finished ≡ length w.finished → All (IsRefused w) ps → All (IsRefused w') ps
 after_step w w' loss ps r step same h = ⊎_elim
-    (λ stays. subst (λ v. All (IsRefused v) ps) (sym stays) h)
+    (λ stays. subst (λ v. All (IsRefused v) ps) (sym stays.1) h)
     (λ it.
     let v = (happens w it.event).1 in
     let keeps : Keeps w v = event_keeps w it.event loss r it.may (sym (ap (λ (u : World). length u.finished) it.led) ∙ same) in

@@ -1,9 +1,11 @@
--- Events that lead on, with what is submitted and what is left.
-use Rattle.std.proofs.Common.{◌≡◌, ℕ, zero, suc, ◌+◌, ◌<◌, Bool, true, false, cond, List, [], ◌∷◌, ◌++◌, length, map, take, get_or, Option, Result, Ok, Err, refl, sym, ap, subst, ◌∙◌, ⊎_elim, inl, inr, arith, append_assoc, IsPermutation}
-use Rattle.std.specs.Prelude.{nat_lt, All, IsOk}
+-- Moves that lead on, with what is submitted and what is left.
+use Rattle.std.proofs.Common.{◌≡◌, ℕ, zero, suc, ◌+◌, ◌<◌, ◌≤◌, Bool, true, false, cond, List, [], ◌∷◌, ◌++◌, length, map, take, get_or, Option, None, Some, Result, Ok, Err, refl, sym, ap, subst, ◌∙◌, ⊎_elim, inl, inr, arith, add-one, append_assoc, IsPermutation}
+use Rattle.std.specs.Prelude.{nat_lt, All, IsOk, OnOk}
 use Rattle.std.specs.List.{remove}
 use Rattle.std.proofs.lemmas.List.{map-append, take_more}
+use Rattle.std.proofs.lemmas.Bool.{cases_eq}
 use Rattle.std.proofs.lemmas.List.Concat.{flat_map-append}
+use Rattle.std.proofs.lemmas.List.Sums.{sum_by-append}
 use Rattle.std.proofs.lemmas.List.Elements.{All-append, All-cons, All-nil}
 use Rattle.std.proofs.lemmas.List.Sorted.{All-permutation, IsPermutation-refl, IsPermutation-trans, IsPermutation-append_right, IsPermutation-middle, IsPermutation-sym, IsPermutation-cons}
 use Rattle.session_meaning.specs.ProgramValue.{ProgramValue}
@@ -20,61 +22,128 @@ use Rattle.frame_world.specs.declared.event.WorldEvent.TheVariants as happening
 use Rattle.frame_world.specs.declared.refusal.WorldRefusal.{WorldRefusal}
 use Rattle.frame_world.specs.declared.refusal.WorldRefusal.TheVariants as refusal
 use Rattle.frame_world.specs.Worlds.{World, Answer, site_at, office_at, told, handed, happens, run_of, Applies}
-use Rattle.simulation.specs.random.Runs.{IsRefused, Leads, MayAllHappen, MayHappen, submitted, submitted_by}
-use Rattle.simulation.specs.random.refinement.Steps.{Steps}
+use Rattle.simulation.specs.random.Runs.{IsRefused, Leads, MayAllBe, MayHappen, events_in, events_of, is_step, messages_at, steps_in, submitted, submitted_by, submitted_in}
+use Rattle.simulation.specs.random.refinement.Steps.{GoesOn, HasCome, Steps, messages_below}
 
 run_append : (w : World) (xs ys : List WorldEvent) → run_of w (xs ++ ys) ≡ run_of (run_of w xs) ys
 run_append w [] ys = refl
 run_append w (x ∷ xs) ys = run_append (happens w x).1 xs ys
 
--- those that were left are then submitted, or left again
-each_append : (loss : ℕ) (w : World) (xs ys : List WorldEvent) (b c : List ProgramValue) → IsPermutation (submitted ys ++ c) b → MayAllHappen loss w xs b → MayAllHappen loss (run_of w xs) ys c → MayAllHappen loss w (xs ++ ys) c
-each_append loss w [] ys b c same h k = k
-each_append loss w (x ∷ xs) ys b c same (may, before, rest) k = (may, λ nothing. All-permutation (IsRefused w) (submitted xs ++ b) (submitted (xs ++ ys) ++ c) all (before nothing), each_append loss (happens w x).1 xs ys b c same rest k)
-  where
-    is : submitted (xs ++ ys) ++ c ≡ submitted xs ++ (submitted ys ++ c)
-    is = ap (λ l. l ++ c) (flat_map-append submitted_by xs ys) ∙ append_assoc (submitted xs) (submitted ys) c
+events_append : (xs ys : List (Option WorldEvent)) → events_of (xs ++ ys) ≡ events_of xs ++ events_of ys
+events_append = flat_map-append events_in
 
+submitted_append : (xs ys : List (Option WorldEvent)) (c : List ProgramValue) → submitted (xs ++ ys) ++ c ≡ submitted xs ++ (submitted ys ++ c)
+submitted_append xs ys c = ap (λ l. l ++ c) (flat_map-append submitted_in xs ys) ∙ append_assoc (submitted xs) (submitted ys) c
+
+-- those that were left are then submitted, or left again
+each_append : (loss : ℕ) (w : World) (xs ys : List (Option WorldEvent)) (b c : List ProgramValue) → IsPermutation (submitted ys ++ c) b → MayAllBe loss w xs b → MayAllBe loss (run_of w (events_of xs)) ys c → MayAllBe loss w (xs ++ ys) c
+each_append loss w [] ys b c same h k = k
+each_append loss w (x ∷ xs) ys b c same (may, before, rest) k =
+    (may, λ step. All-permutation (IsRefused w) (submitted xs ++ b) (submitted (xs ++ ys) ++ c) all (before step), each_append loss (run_of w (events_in x)) xs ys b c same rest later)
+  where
     all : IsPermutation (submitted xs ++ b) (submitted (xs ++ ys) ++ c)
-    all = subst (IsPermutation (submitted xs ++ b)) (sym is) (IsPermutation-append_right (submitted xs) b (submitted ys ++ c) (IsPermutation-sym (submitted ys ++ c) b same))
+    all = subst (IsPermutation (submitted xs ++ b)) (sym (submitted_append xs ys c)) (IsPermutation-append_right (submitted xs) b (submitted ys ++ c) (IsPermutation-sym (submitted ys ++ c) b same))
+
+    later : MayAllBe loss (run_of (run_of w (events_in x)) (events_of xs)) ys c
+    later = subst (λ v. MayAllBe loss v ys c) (run_append w (events_in x) (events_of xs)) k
 
 -- nothing happens
-pub stays : (loss : ℕ) (w : World) (sessions : List ProgramValue) → Leads loss w w sessions sessions
-stays loss w sessions = record { events = []; led = refl; each = tt; once = IsPermutation-refl sessions }
+pub stays : (loss : ℕ) (w : World) (sessions : List ProgramValue) → Leads loss 0 w w sessions sessions
+stays loss w sessions = record { moves = []; led = refl; each = tt; once = IsPermutation-refl sessions; made = refl }
 
 -- one after the other
-pub follows : (loss : ℕ) (u v w : World) (a b c : List ProgramValue) → Leads loss u v a b → Leads loss v w b c → Leads loss u w a c
-follows loss u v w a b c f g = record {
-  events = f.events ++ g.events;
-  led = run_append u f.events g.events ∙ ap (λ x. run_of x g.events) f.led ∙ g.led;
-  each = each_append loss u f.events g.events b c g.once f.each (subst (λ x. MayAllHappen loss x g.events c) (sym f.led) g.each);
+pub follows : (loss m n : ℕ) (u v w : World) (a b c : List ProgramValue) → Leads loss m u v a b → Leads loss n v w b c → Leads loss (m + n) u w a c
+follows loss m n u v w a b c f g = record {
+  moves = f.moves ++ g.moves;
+  led = ap (run_of u) (events_append f.moves g.moves) ∙ run_append u (events_of f.moves) (events_of g.moves) ∙ ap (λ x. run_of x (events_of g.moves)) f.led ∙ g.led;
+  each = each_append loss u f.moves g.moves b c g.once f.each (subst (λ x. MayAllBe loss x g.moves c) (sym f.led) g.each);
   once =
-      let all : submitted (f.events ++ g.events) ++ c ≡ submitted f.events ++ (submitted g.events ++ c) =
-      ap (λ l. l ++ c) (flat_map-append submitted_by f.events g.events) ∙ append_assoc (submitted f.events) (submitted g.events) c in
-      subst (λ l. IsPermutation l a) (sym all)
-      (IsPermutation-trans (submitted f.events ++ (submitted g.events ++ c)) (submitted f.events ++ b) a
-      (IsPermutation-append_right (submitted f.events) (submitted g.events ++ c) b g.once) f.once);
+      subst (λ l. IsPermutation l a) (sym (submitted_append f.moves g.moves c))
+      (IsPermutation-trans (submitted f.moves ++ (submitted g.moves ++ c)) (submitted f.moves ++ b) a
+      (IsPermutation-append_right (submitted f.moves) (submitted g.moves ++ c) b g.once) f.once);
+  made = sum_by-append (λ x. cond (is_step x) 1 0) f.moves g.moves ∙ ap (λ k. k + steps_in g.moves) f.made ∙ ap (λ k. m + k) g.made;
 }
 
--- an event that may happen and submits nothing, whatever is answered
-pub stepped : (loss : ℕ) (w w' : World) (e : WorldEvent) (result : Result Reply WorldRefusal) → submitted_by e ≡ [] → MayHappen loss w e → Applies w e result w' → Steps loss w w'
-stepped loss w w' e result nothing may h = ⊎_elim (λ m. inl m.1) (λ k. inr (record { event = e; nothing = nothing; may = may; led = k.1 })) h
+-- an event that may happen and submits nothing, whatever is answered, unless memory ran out
+pub stepped : (loss : ℕ) (w w' : World) (e : WorldEvent) (result : Result Reply WorldRefusal) → is_step (Some e) ≡ true → MayHappen loss w e → (result ≡ Err (refusal.Office refused_as.Memory) → ⊥) → Applies w e result w' → Steps loss w w'
+stepped loss w w' e result step may not_memory h = ⊎_elim (λ m. absurd (not_memory m.0)) (λ k. inr (record { event = e; step = step; may = may; led = k.1 })) h
+
+submits_nothing : (e : WorldEvent) → is_step (Some e) ≡ true → submitted_by e ≡ []
+submits_nothing (happening.Submit a p) is = absurd cc
+submits_nothing (happening.Withdraw a ticket) is = refl
+submits_nothing (happening.Do a rule) is = refl
+submits_nothing (happening.Send a v i) is = refl
+submits_nothing (happening.Deliver k) is = refl
+
+one_step : (e : WorldEvent) → is_step (Some e) ≡ true → steps_in (Some e ∷ []) ≡ 1
+one_step (happening.Submit a p) is = absurd cc
+one_step (happening.Withdraw a ticket) is = refl
+one_step (happening.Do a rule) is = refl
+one_step (happening.Send a v i) is = refl
+one_step (happening.Deliver k) is = refl
+
+pub on_ok : {A E : Type 0} (r : Result A E) (P Q : Type 0) → (P → Q) → OnOk r P → OnOk r Q
+on_ok (Ok x) P Q f h = f h
+on_ok (Err e) P Q f h = tt
 
 -- the rule that an office of a world tells
 pub rule_there : (w : World) (a : ℕ) (s : Site) (r : Option Rule) → s ≡ site_at w a → s.plan ≡ w.plan → s.me ≡ a → r ≡ next_rule s.plan s.me (office_of s) → r ≡ next_rule w.plan a (office_at w a)
 rule_there w a s r site plan me e = e ∙ ap (λ p. next_rule p s.me (office_of s)) plan ∙ ap (λ m. next_rule w.plan m (office_of s)) me ∙ ap (λ x. next_rule w.plan a (office_of x)) site
 
 -- where the sessions that wait are refused, and go on waiting
-pub step_leads : (loss : ℕ) (w w' : World) (sessions : List ProgramValue) → Steps loss w w' → All (IsRefused w) sessions → Leads loss w w' sessions sessions
-step_leads loss w w' sessions step refused_all = ⊎_elim
-    (λ same. subst (λ v. Leads loss w v sessions sessions) (sym same) (stays loss w sessions))
+pub step_leads : (loss : ℕ) (w w' : World) (sessions : List ProgramValue) → Steps loss w w' → All (IsRefused w) sessions → Leads loss 1 w w' sessions sessions
+step_leads loss w w' sessions came refused_all = ⊎_elim
+    (λ it. record { moves = None ∷ []; led = sym it.1; each = (it.0, λ e. refused_all, tt); once = IsPermutation-refl sessions; made = refl })
     (λ it. record {
-      events = it.event ∷ [];
+      moves = Some it.event ∷ [];
       led = sym it.led;
-      each = (it.may, (λ e. refused_all), tt);
-      once = subst (λ l. IsPermutation l sessions) (sym (ap (λ l. (l ++ []) ++ sessions) it.nothing)) (IsPermutation-refl sessions);
+      each = (it.may, λ e. refused_all, tt);
+      once = subst (λ l. IsPermutation l sessions) (sym (ap (λ l. ((l ++ []) ++ []) ++ sessions) (submits_nothing it.event it.step))) (IsPermutation-refl sessions);
+      made = one_step it.event it.step;
     })
-    step
+    came
+
+-- ---- how many steps were made
+
+pub begins : (loss all : ℕ) (w w' : World) (sessions left : List ProgramValue) → Leads loss 0 w w' sessions left → HasCome loss 0 all w w' sessions left
+begins loss all w w' sessions left h = record { made = 0; leads = h; enough = (omega arith, λ lt. absurd (omega (arith, lt))) }
+
+pub goes_on : (loss steps all : ℕ) (u v w : World) (a b c : List ProgramValue) → HasCome loss steps all u v a b → GoesOn loss all v w b c → HasCome loss (steps + 1) all u w a c
+goes_on loss steps all u v w a b c h came = ⊎_elim
+    (λ it. record {
+      made = h.made + 1;
+      leads = follows loss h.made 1 u v w a b c h.leads it.1;
+      enough =
+          (let few = h.enough.0 in omega (arith, few), λ lt. let fewer : all ≤ length v.finished = h.enough.1 (omega (arith, lt)) in let open_yet = it.0 in absurd (omega (arith, fewer, open_yet)));
+    })
+    (λ it.
+    let same : w ≡ v = it.1 in
+    let left : c ≡ b = it.2 in
+    record {
+      made = h.made;
+      leads = subst (λ l. Leads loss h.made u w a l) (sym left) (subst (λ x. Leads loss h.made u x a b) (sym same) h.leads);
+      enough = (let few = h.enough.0 in omega (arith, few), λ lt. subst (λ (x : World). all ≤ length x.finished) (sym same) it.0);
+    })
+    came
+
+pub all_made : (loss done steps all : ℕ) (w w' : World) (sessions left : List ProgramValue) → HasCome loss done all w w' sessions left → done ≤ steps → steps ≤ done → HasCome loss steps all w w' sessions left
+all_made loss done steps all w w' sessions left h within over = record {
+  made = h.made;
+  leads = h.leads;
+  enough = (let few = h.enough.0 in omega (arith, few, within), λ lt. h.enough.1 (omega (arith, lt, over)));
+}
+
+-- ---- the messages that wait
+
+pub none_below : (s : Site) (n : ℕ) → messages_below s n ≡ 0 → (v : ℕ) → v < n → messages_at s v ≡ 0
+none_below s zero none v lt = absurd (omega (arith, lt))
+none_below s (suc n) none v lt = ⊎_elim
+    (λ (is : v ≡ n). subst (λ k. messages_at s k ≡ 0) (sym is) (omega (arith, none)))
+    (λ ne. none_below s n (omega (arith, none)) v (omega (arith, lt, ne)))
+    (cases_eq v n)
+
+pub more_below : (s : Site) (v : ℕ) → messages_below s (v + 1) ≡ messages_below s v + messages_at s v
+more_below s v = ap (messages_below s) (add-one v)
 
 -- ---- what is refused
 
@@ -134,12 +203,13 @@ removed f (x ∷ xs) (suc i) d lt =
 
 -- the session at this place was submitted
 pub submits : {X : Type 0} (f : X → ProgramValue) (w w' : World) (xs : List X) (i : ℕ) (d : X) (p : ProgramValue) → i < length xs → p ≡ f (get_or xs i d)
-    → IsOk (happens w (happening.Submit p.office p)).0 → w' ≡ run_of w (happening.Submit p.office p ∷ []) → (loss : ℕ) → Leads loss w w' (map f xs) (map f (remove xs i))
+    → IsOk (happens w (happening.Submit p.office p)).0 → w' ≡ run_of w (happening.Submit p.office p ∷ []) → (loss : ℕ) → Leads loss 0 w w' (map f xs) (map f (remove xs i))
 submits f w w' xs i d p lt is ok led loss = record {
-  events = happening.Submit p.office p ∷ [];
+  moves = Some (happening.Submit p.office p) ∷ [];
   led = sym led;
-  each = ((refl, ok), (λ e. absurd cc), tt);
+  each = ((refl, ok), λ e. absurd cc, tt);
   once = subst (λ q. IsPermutation (q ∷ map f (remove xs i)) (map f xs)) (sym is) (removed f xs i d lt);
+  made = refl;
 }
 
 -- ---- who was asked, and refused

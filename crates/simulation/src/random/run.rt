@@ -4,7 +4,8 @@ ghost use Rattle.std.specs.Prelude.{◌≡◌, All, IfOk, OnOk, length, map};
 ghost use Rattle.std.specs.String.{string_bytes};
 ghost use Rattle.frame_world.specs.Headline.{IsReached};
 ghost use Rattle.frame_world.specs.EveryWorld.{HasHeadline};
-ghost use Rattle.simulation.specs.random.Runs.{IsRefused, IsRun, Leads, Tells};
+ghost use Rattle.simulation.specs.random.Runs.{IsRefused, IsRun, Tells};
+ghost use Rattle.simulation.specs.random.refinement.Steps.{GoesOn};
 
 use crate::random::draws::Draws;
 use crate::random::schedule::Schedule;
@@ -35,7 +36,7 @@ pub fn report(
     programs: &[Program],
     schedule: Schedule,
 ) -> Result<Told, AllocError>
-    ensures { IfOk result (λ told. Tells form plan.now programs.now schedule.loss told.world (string_bytes told.text)) }
+    ensures { IfOk result (λ told. Tells form plan.now programs.now schedule.loss schedule.steps told.world (string_bytes told.text)) }
 {
     let world = run(alloc, plan, programs, schedule)?;
     let unfinished = programs.len().saturating_sub(world.finished().len());
@@ -52,14 +53,15 @@ pub fn run(
     programs: &[Program],
     schedule: Schedule,
 ) -> Result<World, AllocError>
-    ensures run { IfOk result (λ w. IsRun plan.now programs.now schedule.loss w) }
+    ensures run { IfOk result (λ w. IsRun plan.now programs.now schedule.loss schedule.steps w) }
     ensures headline { IfOk result (λ w. HasHeadline w) }
 {
     let mut world = World::open(alloc, plan.copy(alloc)?)?;
     let mut waiting = all_of(alloc, programs)?;
     let mut draws = Draws::from_seed(schedule.seed);
     submit_waiting(&mut world, &mut waiting)?;
-    for _ in 0..schedule.steps {
+    let mut done = 0;
+    while done < schedule.steps {
         go_on(
             &mut world,
             &mut waiting,
@@ -67,6 +69,7 @@ pub fn run(
             schedule.loss,
             programs.len(),
         )?;
+        done += 1;
     }
     headline(&world);
     Ok(world)
@@ -85,7 +88,7 @@ fn go_on(
     all: usize,
 ) -> Result<(), AllocError>
     requires { All (IsRefused world.now) (map (λ p. p.now) waiting.now.items) }
-    ensures leads { OnOk result (Leads loss world.old world.new (map (λ p. p.now) waiting.old.items) (map (λ p. p.now) waiting.new.items)) }
+    ensures goes { OnOk result (GoesOn loss all world.old world.new (map (λ p. p.now) waiting.old.items) (map (λ p. p.now) waiting.new.items)) }
     ensures refused { OnOk result (All (IsRefused world.new) (map (λ p. p.now) waiting.new.items)) }
 {
     let finished = world.finished().len();

@@ -1,9 +1,10 @@
 //! One step of a random run.
 
-ghost use Rattle.std.specs.Prelude.{◌≢◌, ◌<◌, ℕ, Err, OnOk, length};
+ghost use Rattle.std.specs.Prelude.{◌≡◌, ◌≢◌, ◌<◌, ◌≤◌, ℕ, Err, OnOk, length};
 ghost use Rattle.office_journal.specs.declared.reply.Refusal.TheVariants as refused;
 ghost use Rattle.frame_world.specs.declared.refusal.WorldRefusal.TheVariants as refusal;
-ghost use Rattle.simulation.specs.random.refinement.Steps.{Steps};
+ghost use Rattle.simulation.specs.random.Runs.{messages_at};
+ghost use Rattle.simulation.specs.random.refinement.Steps.{Steps, messages_below};
 
 use crate::random::draws::Draws;
 use frame_world::WorldRefusal;
@@ -21,7 +22,7 @@ const LAST_FRAMES: usize = 64;
 /// The kind is drawn first, one of three, each as likely; then the office of a rule or of a sending, and then one of
 /// the messages that wait there, for whichever neighbour.
 pub(crate) fn step(world: &mut World, draws: &mut Draws, loss: u64) -> Result<(), AllocError>
-    ensures { Steps loss world.old world.new }
+    ensures { OnOk result (Steps loss world.old world.new) }
 {
     match draws.below(3) {
         0 => rule(world, draws),
@@ -32,7 +33,7 @@ pub(crate) fn step(world: &mut World, draws: &mut Draws, loss: u64) -> Result<()
 
 /// A drawn office does the rule that comes next there.
 fn rule(world: &mut World, draws: &mut Draws) -> Result<(), AllocError>
-    ensures { (loss : ℕ) → Steps loss world.old world.new }
+    ensures { OnOk result ((loss : ℕ) → Steps loss world.old world.new) }
 {
     let office = office(world, draws);
     let Some(rule) = world.office(office).next_rule() else {
@@ -44,7 +45,7 @@ fn rule(world: &mut World, draws: &mut Draws) -> Result<(), AllocError>
 
 /// A drawn office makes a frame of a drawn one of the messages that wait there.
 fn send(world: &mut World, draws: &mut Draws) -> Result<(), AllocError>
-    ensures { (loss : ℕ) → Steps loss world.old world.new }
+    ensures { OnOk result ((loss : ℕ) → Steps loss world.old world.new) }
 {
     let office = office(world, draws);
     let offices = world.plan().offices() as u8;
@@ -63,7 +64,7 @@ fn send(world: &mut World, draws: &mut Draws) -> Result<(), AllocError>
 /// is below the loss. A frame that was lost may be drawn again: it stays among the last. One of the count alone is
 /// never made here, so counts go with messages.
 fn deliver(world: &mut World, draws: &mut Draws, loss: u64) -> Result<(), AllocError>
-    ensures { Steps loss world.old world.new }
+    ensures { OnOk result (Steps loss world.old world.new) }
 {
     let frames = world.frames();
     if frames == 0 {
@@ -85,16 +86,23 @@ fn office(world: &World, draws: &mut Draws) -> OfficeId
 }
 
 /// How many messages wait at an office, for any of so many.
-fn waiting(office: &Office, offices: u8) -> usize {
+fn waiting(office: &Office, offices: u8) -> usize
+    ensures { result ≡ messages_below office.now offices }
+{
     let mut count: usize = 0;
     for v in 0..offices {
-        count = count.saturating_add(waiting_for(office, v));
+        count += waiting_for(office, v);
     }
     count
 }
 
 /// The message that comes after so many, of those that wait at an office: for which neighbour, and as which of those, from 1.
-fn message(office: &Office, offices: u8, place: usize) -> (OfficeId, usize) {
+fn message(office: &Office, offices: u8, place: usize) -> (OfficeId, usize)
+    requires { place < messages_below office.now offices }
+    ensures inside { result.0 < offices }
+    ensures first { 0 < result.1 }
+    ensures waits { result.1 ≤ messages_at office.now result.0 }
+{
     let mut left = place;
     for v in 0..offices {
         let here = waiting_for(office, v);
@@ -107,7 +115,10 @@ fn message(office: &Office, offices: u8, place: usize) -> (OfficeId, usize) {
 }
 
 /// How many messages wait at an office for the one of this number.
-fn waiting_for(office: &Office, v: u8) -> usize {
+fn waiting_for(office: &Office, v: u8) -> usize
+    ensures count { result ≡ messages_at office.now v }
+    ensures few { result ≤ 18 }
+{
     match office.waiting(OfficeId::new(v)) {
         Some((_, count)) => count,
         None => 0,

@@ -26,7 +26,7 @@ pub(crate) fn submit_waiting(
     world: &mut World,
     waiting: &mut Vec<&Program>,
 ) -> Result<(), AllocError>
-    ensures leads { OnOk result ((loss : ℕ) → Leads loss world.old world.new (map (λ p. p.now) waiting.old.items) (map (λ p. p.now) waiting.new.items)) }
+    ensures leads { OnOk result ((loss : ℕ) → Leads loss 0 world.old world.new (map (λ p. p.now) waiting.old.items) (map (λ p. p.now) waiting.new.items)) }
     ensures refused { OnOk result (All (IsRefused world.new) (map (λ p. p.now) waiting.new.items)) }
 {
     let mut place = 0;
@@ -44,7 +44,7 @@ fn submit_at(
     place: usize,
 ) -> Result<usize, AllocError>
     requires { place < length waiting.now.items }
-    ensures leads { OnOk result ((loss : ℕ) → Leads loss world.old world.new (map (λ p. p.now) waiting.old.items) (map (λ p. p.now) waiting.new.items)) }
+    ensures leads { OnOk result ((loss : ℕ) → Leads loss 0 world.old world.new (map (λ p. p.now) waiting.old.items) (map (λ p. p.now) waiting.new.items)) }
     ensures refused { IfOk result (λ next. All (IsRefused world.old) (map (λ p. p.now) (take place waiting.old.items)) → All (IsRefused world.new) (map (λ p. p.now) (take next waiting.new.items))) }
     ensures nearer { IfOk result (λ next. length waiting.new.items - next < length waiting.old.items - place) }
 {

@@ -14,6 +14,7 @@ use Rattle.command_outputs.specs.declared.fault.Fault.TheVariants.{Memory, Text}
 use Rattle.drink_commands.proofs.Faults.{at_end, at_first, at_next, judged, no_input, plan_taken, sessions_taken}
 use Rattle.drink_commands.proofs.Reported.{ran, started}
 use Rattle.drink_commands.proofs.commands.random.run.Goals as goal
+use Rattle.simulation.specs.random.Runs.{events_of}
 
 pub returns-in_err-plan-clause-judged : goal.returns-in_err-plan-clause-judged
 returns-in_err-plan-clause-judged g c =
@@ -69,7 +70,7 @@ pub write_end_of-requires-clause-fit : goal.write_end_of-requires-clause-fit
 write_end_of-requires-clause-fit g c =
     let run = c.in_ok-told.ensures.run in
     let planned : c.in_ok-told.told.world.plan ≡ c.in_ok-plan.plan =
-    sym (ap (λ (w : World). w.plan) run.leads.led) ∙ (seated c.in_ok-plan.plan run.leads.events).planned in
+    sym (ap (λ (w : World). w.plan) run.leads.led) ∙ (seated c.in_ok-plan.plan (events_of run.leads.moves)).planned in
     subst (λ (p : PlanValue). All (λ (x : ProgramValue). IsTrue (fits p x)) c.deref-3.result.now) (sym planned)
     (subst (All (λ (x : ProgramValue). IsTrue (fits c.in_ok-plan.plan x))) (sym c.deref-3.ensures.value) c.in_ok-programs.ensures.fit)
 
@@ -80,7 +81,7 @@ pub returns-clause-tells : goal.returns-clause-tells
 returns-clause-tells g c = λ plan_text sessions_text known.
     let files = g.S.Sources.file_text c.args.sources.now in
     ran c.args.form files c.new-standard.result c.read_plan.new.standard c.read_coded_programs.new.standard c.args.plan.now c.args.sessions.now plan_text sessions_text
-    c.in_ok-plan.plan c.in_ok-programs.programs.items c.deref.result.now c.args.schedule.loss (g.W.Write.contents c.args.out.now) (g.W.Write.contents c.write_whole.new.out) c.deref-2.result.now
+    c.in_ok-plan.plan c.in_ok-programs.programs.items c.deref.result.now c.args.schedule.loss c.args.schedule.steps (g.W.Write.contents c.args.out.now) (g.W.Write.contents c.write_whole.new.out) c.deref-2.result.now
     c.in_ok-told.told.world (option_copied c.args.next) (option_copied c.args.left) (g.T.Targets.written c.args.targets.now) (g.T.Targets.written c.write_end_of.new.targets)
     c.in_ok-plan.ensures.meaning c.in_ok-programs.ensures.meaning
     (started c.new-standard.result (g.S.Sources.standard_text c.args.sources.now) files (c.args.plan.now ∷ c.args.sessions.now ∷ []) (plan_text ∷ sessions_text ∷ []) (search rules) known) c.deref.ensures.value (search rules) c.in_ok-write_whole.ensures.written

@@ -9,7 +9,7 @@ pub returns-then-branch-clause-leads : goal.returns-then-branch-clause-leads
 returns-then-branch-clause-leads c = λ loss.
     let xs = c.args.waiting.now.items in
     let here = ap (λ p. p.now) c.index.ensures in
-    subst (λ ys. Leads loss c.args.world.now c.is_taken.new.world (map (λ p. p.now) xs) (map (λ p. p.now) ys)) (sym c.remove.ensures.items)
+    subst (λ ys. Leads loss 0 c.args.world.now c.is_taken.new.world (map (λ p. p.now) xs) (map (λ p. p.now) ys)) (sym c.remove.ensures.items)
     (submits (λ p. p.now) c.args.world.now c.is_taken.new.world xs c.args.place c.index.result.now c.index.result.now.now c.requires here
     (c.in_ok-is_taken.ensures.accepted (ap Ok c.if-branch.true)) (c.in_ok-is_taken.ensures.taken (ap Ok c.if-branch.true)) loss)
 
@@ -25,7 +25,7 @@ pub returns-clause-leads : goal.returns-clause-leads
 returns-clause-leads c = λ loss.
     let w = c.args.world.now in
     let xs = map (λ p. p.now) c.args.waiting.now.items in
-    subst (λ v. Leads loss w v xs xs) (sym (c.in_ok-is_taken.ensures.unchanged (ap Ok c.if-branch.false))) (stays loss w xs)
+    subst (λ v. Leads loss 0 w v xs xs) (sym (c.in_ok-is_taken.ensures.unchanged (ap Ok c.if-branch.false))) (stays loss w xs)
 
 pub returns-clause-refused : goal.returns-clause-refused
 returns-clause-refused c = λ before.

@@ -14,7 +14,7 @@ loop-place-init c = record {
 pub loop-place-preserved : goal.loop-place-preserved
 loop-place-preserved c = record {
   leads = λ loss.
-      follows loss c.args.world.now c.loop-place.world c.submit_at.new.world (map (λ p. p.now) c.args.waiting.now.items) (map (λ p. p.now) c.loop-place.waiting.items) (map (λ p. p.now) c.submit_at.new.waiting.items)
+      follows loss 0 0 c.args.world.now c.loop-place.world c.submit_at.new.world (map (λ p. p.now) c.args.waiting.now.items) (map (λ p. p.now) c.loop-place.waiting.items) (map (λ p. p.now) c.submit_at.new.waiting.items)
       (c.loop-place.invariant.leads loss) (c.in_ok-place.ensures.leads loss);
   refused = c.in_ok-place.ensures.refused c.loop-place.invariant.refused;
 }

@@ -5,7 +5,7 @@ use Rattle.simulation.proofs.random.submission.submit_waiting.Given as goal
 
 abbrev pub invariant-loop-place : goal.invariant-loop-place
 invariant-loop-place l = record {
-  leads : (loss : ℕ) → Leads loss l.initial.world l.world (map (λ p. p.now) l.initial.waiting.items) (map (λ p. p.now) l.waiting.items);
+  leads : (loss : ℕ) → Leads loss 0 l.initial.world l.world (map (λ p. p.now) l.initial.waiting.items) (map (λ p. p.now) l.waiting.items);
   refused : All (IsRefused l.world) (map (λ p. p.now) (take l.place l.waiting.items));
 }
 
