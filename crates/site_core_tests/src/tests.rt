@@ -6,7 +6,6 @@ use site_core::{Event, Office, Refusal, Reply, Rule};
 use std::alloc::{AllocError, Global};
 use std::test::Fail;
 
-mod caller;
 mod endings;
 mod hostile_frames;
 mod long;

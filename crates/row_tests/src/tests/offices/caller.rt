@@ -23,8 +23,8 @@ fn turn(office: &mut Office, other: &mut Office) -> Result<(), Refusal> {
 
 #[test]
 fn a_session_fetches_what_it_needs(rt: HostRuntime) -> Result<(), Fail> {
-    let programs = super::programs(rt.alloc(), super::PAIR, super::MOVE)?;
-    let mut offices = super::offices(rt.alloc(), super::PAIR)?;
+    let programs = super::programs(rt.alloc(), crate::tests::PAIR, crate::tests::MOVE)?;
+    let mut offices = super::offices(rt.alloc(), crate::tests::PAIR)?;
     assert!(rt; gives(&mut offices, &programs));
     Ok(())
 }

@@ -20,7 +20,7 @@ fn canonical(alloc: Global, plan: &Plan, text: &[u8]) -> Result<String, LangFaul
 
 #[test]
 fn texts_have_a_canonical_form(rt: HostRuntime) -> Result<(), Fail> {
-    let plan = Plan::read(rt.alloc(), super::PLAN.as_bytes())?;
+    let plan = Plan::read(rt.alloc(), crate::tests::PAIR.as_bytes())?;
     let told = canonical(rt.alloc(), &plan, b"session a\n  give (1+2)*read x\nend")?;
     assert_eq!(rt; told.as_str(), "session a\ngive (1 + 2) * read x\nend\n");
     assert_eq!(rt;

@@ -2,7 +2,6 @@
 
 use journal_weave::{GivenJournal, WeaveFault, weave};
 use office_map::Plan;
-use session_language::read_sessions;
 use std::alloc::Global;
 use std::test::Fail;
 use world_schedule::World;
@@ -22,10 +21,9 @@ fn audited(alloc: Global, plan: &Plan, journals: &[GivenJournal]) -> Result<usiz
 
 #[test]
 fn journals_of_a_run_are_audited(rt: HostRuntime) -> Result<(), Fail> {
-    let plan = Plan::read(rt.alloc(), super::PAIR.as_bytes())?;
-    let programs = read_sessions(rt.alloc(), super::MOVE.as_bytes(), &plan)?;
-    for (row, finished) in [(&super::ROWS[0], Some(1)), (&super::ROWS[1], None)] {
-        let journals = super::both(rt.alloc(), &programs, row)?;
+    let plan = Plan::read(rt.alloc(), crate::tests::PAIR.as_bytes())?;
+    for (second, finished) in [(super::GIVES, Some(1)), (super::SILENT, None)] {
+        let journals = super::both(rt.alloc(), &plan, super::MOVES, second)?;
         assert_eq!(rt; audited(rt.alloc(), &plan, &journals).ok(), finished);
     }
     Ok(())

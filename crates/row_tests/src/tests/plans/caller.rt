@@ -20,7 +20,7 @@ fn starts(alloc: Global, text: &[u8]) -> Result<String, PlanFault> {
 
 #[test]
 fn records_start_at_an_office(rt: HostRuntime) -> Result<(), Fail> {
-    let told = starts(rt.alloc(), super::TWO_OFFICES.as_bytes())?;
+    let told = starts(rt.alloc(), crate::tests::PAIR.as_bytes())?;
     assert_eq!(rt;
         told.as_str(),
         "x starts at a with 100\ny starts at b with 0\n"

@@ -1,11 +1,9 @@
-//! Rows of events with what a world answers and tells.
-
-use session_meaning::Outcome;
-use site_core::Rule;
-use std::fmt::Write;
-use std::process::Abort;
-
-mod caller;
+mod offices;
+mod plans;
+mod sessions;
+mod values;
+mod weaving;
+mod worlds;
 
 /// Two offices, and two records of theirs.
 const PAIR: &str =

@@ -29,8 +29,8 @@ fn settle(world: &mut World, programs: &[Program]) -> Result<(), WorldRefusal> {
 
 #[test]
 fn sessions_finish_by_themselves(rt: HostRuntime) -> Result<(), Fail> {
-    let plan = Plan::read(rt.alloc(), super::PAIR.as_bytes())?;
-    let programs = read_sessions(rt.alloc(), super::MOVE.as_bytes(), &plan)?;
+    let plan = Plan::read(rt.alloc(), crate::tests::PAIR.as_bytes())?;
+    let programs = read_sessions(rt.alloc(), crate::tests::MOVE.as_bytes(), &plan)?;
     assert_eq!(rt; finished(rt.alloc(), plan, &programs)?, 1);
     Ok(())
 }

@@ -1,2 +1,0 @@
-mod plans;
-mod values;

@@ -1,0 +1,2 @@
+mod caller;
+mod replay;

@@ -1,2 +1,0 @@
-mod language;
-mod replay;
