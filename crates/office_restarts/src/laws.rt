@@ -19,15 +19,15 @@ pub fn what_stood_stands()
     ensures { WhatStoodStands }
 {}
 
-/// Whatever is lost and done again, only so many steps ever stand: as many as the plan starts with work, and the sessions brought.
+/// However much is lost and done again, no more steps ever stand than the plan starts with work, and the submitted sessions bring.
 pub fn few_steps_stand()
     ensures { FewStepsStand }
 {
     steps_use_up_work();
 }
 
-/// Offices that go on, each with its rounds and with a frame of each message that waits, come to a time at which no session is left
-/// of all that stand, however often they are lost; if nothing more is submitted.
+/// Offices that go on, each with its rounds, where of each message that waits some frame arrives, finish every session that stands,
+/// however often they are lost, if nothing more is submitted.
 pub fn offices_that_go_on_finish()
     ensures { OfficesThatGoOnFinish }
 {
