@@ -1,6 +1,5 @@
 -- What a command wrote is what its texts mean.
 use Rattle.std.proofs.Common.{◌≡◌, ℕ, Bool, List, [], ◌∷◌, length, map, get_or, Option, Some, is_some, IfSome, sym, subst}
-use Rattle.std.specs.List.{range_with_len}
 use Rattle.std.specs.String.{string_bytes}
 use Rattle.std.specs.Io.KnownBytes.{Appends}
 use Rattle.host_files.specs.inputs.Words.{HasText, HaveTexts, StandFor, Unread, unread}
@@ -14,7 +13,8 @@ use Rattle.simulation.specs.scripts.Transcript.{transcript, IsSerialRun}
 use Rattle.simulation.specs.random.Runs.{Tells}
 use Rattle.drink_commands.specs.Random.{TellsRun}
 use Rattle.session_reports.specs.declared.form.forms.Form.{Form}
-use Rattle.office_runs.specs.Runs.{TellsCourse, TellsJournals}
+use Rattle.office_runs.specs.Runs.{TellsCourse}
+use Rattle.office_runs.specs.live.Courses.{TellsCourses}
 use Rattle.office_runs.specs.declared.report.Ran.{Ran}
 use Rattle.command_outputs.specs.Days.{WritesEndOf}
 use Rattle.command_outputs.specs.Journals.{File, WritesFiles}
@@ -95,12 +95,12 @@ ran_office Is form tells Free files u v w a word b a_text b_text p me programs s
       journal = journal;
     }
 
-pub ran_offices : (form : Form) (Free : PlanValue → ℕ → List ℕ → Type 0) (files : List ℕ → Option (List ℕ)) (u v w : Unread) (a b a_text b_text : List ℕ) (p : PlanValue) (programs seen : List ProgramValue)
+pub ran_offices : (form : Form) (tells : Bool) (Free : PlanValue → ℕ → List ℕ → Type 0) (files : List ℕ → Option (List ℕ)) (u v w : Unread) (a b a_text b_text : List ℕ) (p : PlanValue) (programs seen : List ProgramValue)
     (folder next_file unfinished : Option (List ℕ)) (run : Ran) (old new : Option (List ℕ)) (kept left : Option (List File)) → TakesPlan files u a v p → TakesSessions files v b w p programs
     → HaveTexts files u (a ∷ b ∷ []) (a_text ∷ b_text ∷ []) → seen ≡ programs → IfSome folder (Free p (length p.offices))
-    → TellsJournals form p (range_with_len 0 (length p.offices)) (length seen) (are_wanted folder next_file unfinished) run → WritesRan p seen folder next_file unfinished run old new kept left
-    → WritesOffices form Free a_text b_text folder next_file unfinished run old new kept left
-ran_offices form Free files u v w a b a_text b_text p programs seen folder next_file unfinished run old new kept left plan sessions (after, has, (next, has_next, more)) same free told writes =
+    → TellsCourses form tells p seen (are_wanted folder next_file unfinished) run → WritesRan p seen folder next_file unfinished run old new kept left
+    → WritesOffices form tells Free a_text b_text folder next_file unfinished run old new kept left
+ran_offices form tells Free files u v w a b a_text b_text p programs seen folder next_file unfinished run old new kept left plan sessions (after, has, (next, has_next, more)) same free told writes =
     let it = plan a_text after has in
     record {
       both = record {
@@ -110,7 +110,7 @@ ran_offices form Free files u v w a b a_text b_text p programs seen folder next_
         are_sessions = (sessions b_text next (subst (λ s. HasText files s b b_text next) (sym it.1) has_next)).0;
       };
       free = free;
-      told = subst (λ ps. TellsJournals form p (range_with_len 0 (length p.offices)) (length ps) (are_wanted folder next_file unfinished) run) same told;
+      told = subst (λ ps. TellsCourses form tells p ps (are_wanted folder next_file unfinished) run) same told;
       writes = subst (λ ps. WritesRan p ps folder next_file unfinished run old new kept left) same writes;
     }
 

@@ -1,6 +1,5 @@
 -- What the commands `run` and `live` write, and what their faults say.
 use Rattle.std.specs.Prelude.{◌≡◌, ◌⊎◌, ◌<◌, ◌||◌, ℕ, Bool, zero, suc, List, [], ◌∷◌, true, false, length, map, take, get_or, Option, Some, None, is_some, IfSome}
-use Rattle.std.specs.List.{range_with_len}
 use Rattle.std.specs.String.{string_bytes}
 use Rattle.std.specs.Io.KnownBytes.{Appends}
 use Rattle.host_files.specs.inputs.Words.{HaveFirstTexts, StandFor}
@@ -9,7 +8,8 @@ use Rattle.session_meaning.specs.ProgramValue.{ProgramValue}
 use Rattle.socket_pump.specs.Wires.{Account}
 use Rattle.office_stations.specs.Addresses.{is_without}
 use Rattle.session_reports.specs.declared.form.forms.Form.{Form}
-use Rattle.office_runs.specs.Runs.{TellsCourse, TellsJournals}
+use Rattle.office_runs.specs.Runs.{TellsCourse}
+use Rattle.office_runs.specs.live.Courses.{TellsCourses}
 use Rattle.office_runs.specs.declared.report.Ran.{Ran}
 use Rattle.office_stations.specs.declared.fault.RunFault.{RunFault}
 use Rattle.command_outputs.specs.Days.{WritesDay, is_day_named}
@@ -79,10 +79,10 @@ are_wanted folder next unfinished = is_some folder || is_day_named next unfinish
 
 -- The two texts mean a plan and sessions under it. What is told, in that form, of a run of all the plan's offices with those sessions was written, and the
 -- folder that a word names for their journals was free to take them, as Free says.
-pub record WritesOffices (form : Form) (Free : PlanValue → ℕ → List ℕ → Type 0) (plan sessions : List ℕ) (folder next unfinished : Option (List ℕ)) (ran : Ran) (old new : Option (List ℕ)) (kept left : Option (List File)) : Type 0 where
+pub record WritesOffices (form : Form) (tells : Bool) (Free : PlanValue → ℕ → List ℕ → Type 0) (plan sessions : List ℕ) (folder next unfinished : Option (List ℕ)) (ran : Ran) (old new : Option (List ℕ)) (kept left : Option (List File)) : Type 0 where
   pub both : PlanAndSessions plan sessions
   pub free : IfSome folder (Free both.p (length both.p.offices))
-  pub told : TellsJournals form both.p (range_with_len 0 (length both.p.offices)) (length both.programs) (are_wanted folder next unfinished) ran
+  pub told : TellsCourses form tells both.p both.programs (are_wanted folder next unfinished) ran
   pub writes : WritesRan both.p both.programs folder next unfinished ran old new kept left
 
 -- so it is with the texts that the words stand for, of a run that ended as P says
@@ -92,10 +92,10 @@ RunsOffice Is form tells files standard plan word sessions turns file P old new 
     → (ran : Ran) × P ran × WritesOffice Is form tells (IsFree files plan sessions) plan_text word sessions_text turns file ran old new kept left
 
 -- so it is of all offices of the plan and all sessions
-abbrev pub RunsOffices : Form → (List ℕ → Option (List ℕ)) → Option (List ℕ) → (plan sessions : List ℕ) → (folder next unfinished : Option (List ℕ)) → (Ran → Type 0) → Option (List ℕ) → Option (List ℕ) → Option (List File) → Option (List File) → Type 0
-RunsOffices form files standard plan sessions folder next unfinished P old new kept left = (plan_text sessions_text : List ℕ)
+abbrev pub RunsOffices : Form → Bool → (List ℕ → Option (List ℕ)) → Option (List ℕ) → (plan sessions : List ℕ) → (folder next unfinished : Option (List ℕ)) → (Ran → Type 0) → Option (List ℕ) → Option (List ℕ) → Option (List File) → Option (List File) → Type 0
+RunsOffices form tells files standard plan sessions folder next unfinished P old new kept left = (plan_text sessions_text : List ℕ)
     → StandFor files standard (plan ∷ sessions ∷ []) (plan_text ∷ sessions_text ∷ [])
-    → (ran : Ran) × P ran × WritesOffices form (AreFree files plan sessions) plan_text sessions_text folder next unfinished ran old new kept left
+    → (ran : Ran) × P ran × WritesOffices form tells (AreFree files plan sessions) plan_text sessions_text folder next unfinished ran old new kept left
 
 -- ---- what a fault says
 

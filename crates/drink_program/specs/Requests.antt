@@ -92,7 +92,7 @@ IsDone Is tells files standard stores (Random plan sessions seed loss steps next
 IsDone Is tells files standard stores (Run plan office sessions turns file secrets json) status old new kept left = RunsOffice (Is (option_copied secrets)) (form_of json) tells files standard plan.now office.now sessions.now turns (option_copied file) (EndsWith status) old new kept left
 IsDone Is tells files standard stores (RunStored plan office sessions turns store sync is_new secrets json) status old new kept left = KeepsFiles kept left × RunsStored (Is (option_copied secrets)) (form_of json) tells files standard (stores store.now) is_new plan.now office.now sessions.now store.now turns (EndsStored status) old new
 IsDone Is tells files standard stores (Serve plan office store sync is_new secrets linger each json) status old new kept left = KeepsFiles kept left × ServesOffice (Is (option_copied secrets)) (form_of json) tells files standard (stores store.now) is_new plan.now office.now store.now standard IsServed old new
-IsDone Is tells files standard stores (Live plan sessions folder next unfinished json) status old new kept left = RunsOffices (form_of json) files standard plan.now sessions.now (option_copied folder) (option_copied next) (option_copied unfinished) (EndsWith status) old new kept left
+IsDone Is tells files standard stores (Live plan sessions folder next unfinished json) status old new kept left = RunsOffices (form_of json) tells files standard plan.now sessions.now (option_copied folder) (option_copied next) (option_copied unfinished) (EndsWith status) old new kept left
 IsDone Is tells files standard stores (Audit plan journals next unfinished json) status old new kept left = (plan_text : List ℕ) (texts : List (List ℕ))
     → StandFor files standard (plan.now ∷ map (λ w. w.now) journals.items) (plan_text ∷ texts) → Audits (form_of json) plan_text texts (option_copied next) (option_copied unfinished) status old new kept left
 

@@ -1,5 +1,5 @@
 -- How the threads of an office end.
-use Rattle.std.proofs.Common.{◌≡◌, ℕ, zero, suc, ◌+◌, ◌<◌, Bool, List, [], ◌∷◌, None, Some, refl, sym, subst}
+use Rattle.std.proofs.Common.{◌≡◌, ℕ, zero, suc, ◌+◌, ◌<◌, ◌≤◌, Bool, false, List, [], ◌∷◌, Option, None, Some, refl, sym, subst}
 use Rattle.session_meaning.specs.ProgramValue.{ProgramValue}
 use Rattle.locked_office.specs.Calls.{Key, DeskPass}
 use Rattle.socket_pump.specs.Wires.{Account}
@@ -8,7 +8,7 @@ use Rattle.office_stations.specs.declared.fault.RunFault.{RunFault}
 use Rattle.office_stations.specs.declared.pace.TimedTurn.{TimedTurn}
 use Rattle.office_stations.specs.declared.turning.Turning.TheVariants.{Adaptive}
 use Rattle.office_stations.specs.Rounds.{Standing, Fills, StopsFilling, Turns, BreaksOff, counted}
-use Rattle.office_runs.specs.Threads.{Worked, FillsTimes, Submitted}
+use Rattle.office_runs.specs.Threads.{Worked, WorkedOut, FillsTimes, Submitted}
 use Rattle.office_stations.specs.refinement.Standings.{standing}
 use Rattle.office_stations.specs.refinement.RoundLaws.{Made, one_round}
 
@@ -24,6 +24,14 @@ one_turn tells t k turns n c d a p r w b l m same few count so_far turned =
     one_round Adaptive tells 0 t t k turns n c d a p p r w b l m [] [] [] same same few count so_far (no_sessions t k p) turned
 
 -- it stopped between turns
+pub worked_out : (tells : Bool) (k : Key) (turns n : ℕ) (over : Bool) (a b : Standing) → Made Adaptive tells 0 k turns n a b [] [] → (over ≡ false → turns ≤ n) → WorkedOut over None tells k turns a b
+worked_out tells k turns n over a b h all = ((h.made, h.begun, h.rounds), λ e. subst (λ (x : ℕ). turns ≤ x) (sym h.number) (all e))
+
+-- how it worked, however it ended
+pub as_worked : (over : Bool) (fault : Option RunFault) (tells : Bool) (k : Key) (turns : ℕ) (a b : Standing) → WorkedOut over fault tells k turns a b → Worked fault tells k turns a b
+as_worked over None tells k turns a b h = h.0
+as_worked over (Some fault) tells k turns a b h = h
+
 pub worked : (tells : Bool) (k : Key) (turns n : ℕ) (a b : Standing) → Made Adaptive tells 0 k turns n a b [] [] → Worked None tells k turns a b
 worked tells k turns n a b h = (h.made, h.begun, h.rounds)
 

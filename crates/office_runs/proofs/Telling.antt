@@ -84,7 +84,7 @@ tells_run Is form tells p me programs turns wanted ran k a b q sessions fault ke
 
 pub adds_office : {E : Type 0} (form : Form) (p : PlanValue) (k : Key) (worker client : List Entry) (before after : Told) (s : Site) (result : Result ℕ E) → key_of s ≡ k → IsLegal s →
     OnOk result (after.lines ≡ before.lines ++ flat_map (outcome_as form p) (finished_of s)) → IfOk result (λ n. n ≡ length (finished_of s)) → OnOk result (AddsJournal before.wanted s before.texts after.texts) →
-    All (λ (e : Entry). e.tag < 2) s.entries → IsPrefix (tagged tag_of 0 s.entries) worker → IsPrefix (tagged tag_of 1 s.entries) client → IfOk result (AddsOffice form p k worker client before after)
+    All (λ (e : Entry). e.tag < 2) s.entries → tagged tag_of 0 s.entries ≡ worker → IsPrefix (tagged tag_of 1 s.entries) client → IfOk result (AddsOffice form p k worker client before after)
 adds_office form p k worker client before after s (Ok n) key legal lines count journal tags turns submits = record {
   site = s;
   key = key;

@@ -6,7 +6,7 @@ use Rattle.std.proofs.lemmas.Bool.{cases_lt}
 use Rattle.std.proofs.lemmas.List.{append_cancel_left}
 use Rattle.std.proofs.lemmas.List.Elements.{All-cons, All-nil}
 use mathlib.Core.List.{IsPrefix}
-use Rattle.own_lock.specs.Entries.{tagged}
+use Rattle.own_lock.specs.Entries.{longer, tagged}
 use Rattle.own_lock.specs.Passes.{LockView, fresh_pass}
 use Rattle.office_map.specs.PlanValue.{PlanValue}
 use Rattle.office_journal.specs.declared.event.Entry.{Entry}
@@ -41,21 +41,24 @@ one_met desk at most pass first seen is begins mine others t more less =
     let none : tagged tag_of at seen ≡ [] = subst (λ (p : DeskPass). tagged tag_of p.tag seen ≡ p.mine) is mine in
     ⊎_elim (λ gt. others t gt less) (λ le. let same : at ≡ t = omega (arith, le, more) in subst (λ (x : ℕ). tagged tag_of x first ≡ []) same (none_before tag_of at first seen begins none)) (cases_lt at t)
 
--- what a pass that only looked had seen, when all others have met it
-pub all_met : (desk : LockView Key) (k : Key) (own looked rested worked submitted worker client : DeskPass) (rest : List DeskPass) → own ≡ fresh_pass desk tag_of [] 15 → rest ≡ map (fresh_pass desk tag_of []) (range_with_len 2 13) →
-    Looks k own looked → looked.tag ≡ own.tag → rested.tag ≡ looked.tag → rested.mine ≡ looked.mine → IsPrefix looked.seen rested.seen → ((t : ℕ) → 2 ≤ t → t < 2 + length rest → tagged tag_of t looked.seen ≡ []) →
-    IsPrefix rested.seen worked.seen → tagged tag_of rested.tag worked.seen ≡ rested.mine → worker.tag ≡ 0 → tagged tag_of worker.tag worked.seen ≡ worker.mine → IsPrefix worked.seen submitted.seen → client.tag ≡ 1 → tagged tag_of client.tag submitted.seen ≡ client.mine →
-    All (λ (e : Entry). e.tag < 2) looked.seen × IsPrefix (tagged tag_of 0 looked.seen) worker.mine × IsPrefix (tagged tag_of 1 looked.seen) client.mine
-all_met desk k own looked rested worked submitted worker client rest fresh others looks tag still mine seen none later own_mine first first_mine last second second_mine =
-    let to_worked : IsPrefix looked.seen worked.seen = begins_all looked.seen rested.seen worked.seen seen later in
-    let to_submitted : IsPrefix looked.seen submitted.seen = begins_all looked.seen worked.seen submitted.seen to_worked last in
+-- a pass that another one met has all as before, but for what it has seen
+pub own_kept : (own met other : DeskPass) → met ≡ record own { seen = longer own.seen other.seen } → met ≡ record own { seen = met.seen }
+own_kept own met other is = is ∙ ap (λ (l : List Entry). record own { seen = l }) (sym (ap (λ (p : DeskPass). p.seen) is))
+
+-- what who turned the office had seen at its last look, when all passes have met it
+pub all_met : (desk : LockView Key) (k : Key) (own worker looked met rested given client : DeskPass) (rest : List DeskPass) → own ≡ fresh_pass desk tag_of [] 15 → rest ≡ map (fresh_pass desk tag_of []) (range_with_len 2 13) →
+    worker.tag ≡ 0 → Looks k worker looked → looked.tag ≡ worker.tag → looked.mine ≡ tagged tag_of looked.tag looked.seen → met ≡ record own { seen = met.seen } → IsPrefix looked.seen met.seen →
+    rested.tag ≡ met.tag → rested.mine ≡ met.mine → IsPrefix met.seen rested.seen → ((t : ℕ) → 2 ≤ t → t < 2 + length rest → tagged tag_of t met.seen ≡ []) →
+    IsPrefix rested.seen given.seen → tagged tag_of rested.tag given.seen ≡ rested.mine → client.tag ≡ 1 → tagged tag_of client.tag given.seen ≡ client.mine →
+    All (λ (e : Entry). e.tag < 2) looked.seen × (tagged tag_of 0 looked.seen ≡ worker.mine) × IsPrefix (tagged tag_of 1 looked.seen) client.mine
+all_met desk k own worker looked met rested given client rest fresh others turns looks tag mine is seen still kept later none last own_mine submits client_mine =
+    let to_given : IsPrefix looked.seen given.seen = begins_all looked.seen rested.seen given.seen (begins_all looked.seen met.seen rested.seen seen later) last in
     let count : length rest ≡ 13 = ap length others in
-    let is_last : rested.tag ≡ 15 = still ∙ tag ∙ ap (λ (p : DeskPass). p.tag) fresh in
-    let empty : rested.mine ≡ [] = mine ∙ looks_adds_nothing k own looked looks ∙ ap (λ (p : DeskPass). p.mine) fresh in
-    let own_none : tagged tag_of 15 worked.seen ≡ [] = subst (λ (t : ℕ). tagged tag_of t worked.seen ≡ []) is_last (own_mine ∙ empty) in
-    let turned : tagged tag_of 0 worked.seen ≡ worker.mine = subst (λ (t : ℕ). tagged tag_of t worked.seen ≡ worker.mine) first first_mine in
-    let given : tagged tag_of 1 submitted.seen ≡ client.mine = subst (λ (t : ℕ). tagged tag_of t submitted.seen ≡ client.mine) second second_mine in (
-      told_tags (office_with k looked.seen) worked.seen looks.1.legal to_worked (λ t more less. none t more (omega (arith, less, count))) own_none,
-      subst (IsPrefix (tagged tag_of 0 looked.seen)) turned (tagged_begins tag_of 0 looked.seen worked.seen to_worked),
-      subst (IsPrefix (tagged tag_of 1 looked.seen)) given (tagged_begins tag_of 1 looked.seen submitted.seen to_submitted),
+    let is_last : rested.tag ≡ 15 = still ∙ ap (λ (p : DeskPass). p.tag) is ∙ ap (λ (p : DeskPass). p.tag) fresh in
+    let empty : rested.mine ≡ [] = kept ∙ ap (λ (p : DeskPass). p.mine) is ∙ ap (λ (p : DeskPass). p.mine) fresh in
+    let own_none : tagged tag_of 15 given.seen ≡ [] = subst (λ (t : ℕ). tagged tag_of t given.seen ≡ []) is_last (own_mine ∙ empty) in
+    let submitted : tagged tag_of 1 given.seen ≡ client.mine = subst (λ (t : ℕ). tagged tag_of t given.seen ≡ client.mine) submits client_mine in (
+      told_tags (office_with k looked.seen) given.seen looks.1.legal to_given (λ t more less. none_before tag_of t looked.seen met.seen seen (none t more (omega (arith, less, count)))) own_none,
+      subst (λ (t : ℕ). tagged tag_of t looked.seen ≡ looked.mine) (tag ∙ turns) (sym mine) ∙ looks_adds_nothing k worker looked looks,
+      subst (IsPrefix (tagged tag_of 1 looked.seen)) submitted (tagged_begins tag_of 1 looked.seen given.seen to_given),
     )

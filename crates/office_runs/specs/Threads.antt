@@ -1,5 +1,5 @@
 -- What the threads of an office do: one turns it, and one submits its sessions.
-use Rattle.std.specs.Prelude.{◌≡◌, ◌<◌, ℕ, zero, suc, Bool, List, [], ◌++◌, map, All, Option, None, Some}
+use Rattle.std.specs.Prelude.{◌≡◌, ◌<◌, ◌≤◌, ℕ, zero, suc, Bool, false, List, [], ◌++◌, map, All, Option, None, Some}
 use Rattle.session_meaning.specs.ProgramValue.{ProgramValue}
 use Rattle.office_journal.specs.declared.event.Event.TheVariants.{Submit}
 use Rattle.office_journal.specs.declared.event.Entry.{Entry}
@@ -25,6 +25,11 @@ IsNew tag p = (p.tag ≡ tag) × (p.seen ≡ []) × (p.mine ≡ [])
 abbrev pub Worked : Option RunFault → Bool → Key → ℕ → Standing → Standing → Type 0
 Worked None tells k turns a b = (made : List TimedTurn) × IsLastBegun turns made × Rounds Adaptive tells 0 k made a b [] []
 Worked (Some fault) tells k turns a b = (made : List TimedTurn) × (at : Standing) × (counted turns made < turns) × Rounds Adaptive tells 0 k made a at [] [] × BreaksOff Adaptive tells 0 k at b fault
+
+-- so it was; and where no fault ended it, it made all its turns, unless the run was over before
+abbrev pub WorkedOut : Bool → Option RunFault → Bool → Key → ℕ → Standing → Standing → Type 0
+WorkedOut over None tells k turns a b = (worked : Worked None tells k turns a b) × (over ≡ false → turns ≤ counted turns worked.0)
+WorkedOut over (Some fault) tells k turns a b = Worked (Some fault) tells k turns a b
 
 -- sessions are submitted as the office takes them, so many times
 abbrev pub FillsTimes : ℕ → Key → DeskPass → DeskPass → List ProgramValue → List ProgramValue → Type 0

@@ -21,14 +21,15 @@ use site_core::Office;
 use std::alloc::AllocError;
 use std::sync::Wait;
 
-/// The sessions of an office that finished are told, and how many they are; and its journal, where it is wanted. Then all its
-/// passes meet, so that it is known whose the entries are: those of who turned it, and of who submitted its sessions.
+/// The sessions of an office that finished are told, and how many they are; and its journal, where it is wanted. Who turned it looks
+/// last: so all that it wrote is told. Then all passes meet, so that it is known whose the entries are: those of who turned it, and of
+/// who submitted its sessions.
 pub fn add_office<R: Wait>(
     rt: &R,
     form: Form,
     plan: &Plan,
     office: Opened,
-    worker: Pass<Office>,
+    mut worker: Pass<Office>,
     client: Pass<Office>,
     report: &mut Report,
 ) -> Result<usize, AllocError>
@@ -43,9 +44,10 @@ pub fn add_office<R: Wait>(
         rest,
     } = office;
     let desk: &Desk = &desk;
-    let added = add_sessions(rt, desk, &mut own, form, plan, report);
-    meet_all(desk, rest, &mut own);
+    let added = add_sessions(rt, desk, &mut worker, form, plan, report);
+    let _ = worker.tag();
     desk.meet(worker, &mut own);
+    meet_all(desk, rest, &mut own);
     desk.meet(client, &mut own);
     added
 }

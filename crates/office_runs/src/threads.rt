@@ -6,7 +6,7 @@ ghost use Rattle.own_lock.specs.Passes.{IsOf, fresh_pass};
 ghost use Rattle.locked_office.specs.Calls.{Stays, tag_of};
 ghost use Rattle.socket_pump.specs.Last.{last_of};
 ghost use Rattle.office_stations.specs.Rounds.{of_office};
-ghost use Rattle.office_runs.specs.Threads.{Worked, Submitted, most_turns};
+ghost use Rattle.office_runs.specs.Threads.{WorkedOut, Submitted, most_turns};
 ghost use Rattle.office_stations.specs.refinement.Standings.{standing};
 ghost use Rattle.office_runs.specs.refinement.Ends.{HasWorked, HasSubmitted};
 ghost use Rattle.office_runs.specs.refinement.Opening.{opened_key};
@@ -61,6 +61,8 @@ pub struct Worker<S: Socket> {
 pub struct WorkerEnd {
     pub pass: Pass<Office>,
     pub fault: Option<RunFault>,
+    /// Whether the run was over before its turns were.
+    pub over: bool,
     pub ways: Ways,
 }
 
@@ -74,7 +76,7 @@ pub struct TurnsAt<S: Socket> {
 impl<S: Socket> Promise<WorkerEnd> for TurnsAt<S> {
     ghost use Rattle.office_runs.specs.refinement.Ends.{HasWorked};
 
-    ghost kept_by = { λ p end. HasWorked S.tells p.desk.value end.fault end.pass };
+    ghost kept_by = { λ p end. HasWorked S.tells p.desk.value end.over end.fault end.pass };
 }
 
 /// Who submits an office's sessions.
@@ -199,7 +201,7 @@ impl<S: Socket> Worker<S> {
         watch: &W,
         shared: &Shared,
     ) -> WorkerEnd
-        ensures worked { HasWorked S.tells (arc_value self.desk) result.fault result.pass }
+        ensures worked { HasWorked S.tells (arc_value self.desk) result.over result.fault result.pass }
     {
         let Worker {
             me,
@@ -211,7 +213,7 @@ impl<S: Socket> Worker<S> {
             start,
         } = self;
         let mut station = Station::with_hearing(pump, socket, hearing, start);
-        let fault = turn_all(
+        let (fault, over) = turn_all(
             rt,
             plan,
             me,
@@ -224,10 +226,16 @@ impl<S: Socket> Worker<S> {
         );
         shared.end(me);
         let ways = station.known_ways();
-        WorkerEnd { pass, fault, ways }
+        WorkerEnd {
+            pass,
+            fault,
+            over,
+            ways,
+        }
     }
 }
 
+/// The fault that ended its turns, if one did; and whether the run was over before they were.
 fn turn_all<R: Wait + Clock, S: Socket, G: Gate, W: Watch>(
     rt: &R,
     plan: &Plan,
@@ -238,27 +246,30 @@ fn turn_all<R: Wait + Clock, S: Socket, G: Gate, W: Watch>(
     gate: &G,
     watch: &W,
     shared: &Shared,
-) -> Option<RunFault>
+) -> (Option<RunFault>, bool)
     requires key { desk.now.key ≡ station.old.pump.key }
     requires of { IsOf desk.now pass.old }
     requires idle { pass.old.holds ≡ false }
     requires tag { pass.old.tag ≡ 0 }
     ensures stays { Stays desk.now pass.old pass.new }
-    ensures worked { Worked result S.tells desk.now.key most_turns (standing pass.old (S.account station.old.socket) (last_of station.old.pump.lasts))
+    ensures worked { WorkedOut result.1 result.0 S.tells desk.now.key most_turns (standing pass.old (S.account station.old.socket) (last_of station.old.pump.lasts))
         (standing pass.new (S.account station.new.socket) (last_of station.new.pump.lasts)) }
 {
     let leads = me.index() == 0;
     let mut count = 0;
     for _ in rt.forever() {
-        if count >= MOST_TURNS || shared.is_over() {
-            return None;
+        if count >= MOST_TURNS {
+            return (None, false);
+        }
+        if shared.is_over() {
+            return (None, true);
         }
         gate.before(me);
         let turn = match station.turn(rt, desk, pass, Turning::Adaptive, shared) {
             Ok(turn) => turn,
             Err(fault) => {
                 shared.fail(rt, fault);
-                return Some(fault);
+                return (Some(fault), false);
             }
         };
         shared.room(me).set_finished(station.finished());

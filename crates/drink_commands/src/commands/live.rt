@@ -60,12 +60,12 @@ where
     V: Watch + Sync,
     T: Targets,
     W: Write,
-    ensures runs { IfOk result (λ status. RunsOffices form (S.file_text sources.now) (S.standard_text sources.now) plan.now sessions.now (option_copied journals.entry) (option_copied next.entry) (option_copied left.entry)
+    ensures runs { IfOk result (λ status. RunsOffices form B.Socket.tells (S.file_text sources.now) (S.standard_text sources.now) plan.now sessions.now (option_copied journals.entry) (option_copied next.entry) (option_copied left.entry)
         (EndsWith status) (W.contents out.old) (W.contents out.new) (T.written targets.old) (T.written targets.new)) }
     ensures status { IfOk result (λ status. status ≤ 1) }
 
     ensures judged { IfErr result (IsJudgedOr IsOfRun (S.file_text sources.now) (S.standard_text sources.now) (plan.now ∷ sessions.now ∷ []) (Input.Plan ∷ Input.Sessions ∷ [])) }
-    ensures leaves { IfErr result (Leaves ((out.new ≡ out.old) × (targets.new ≡ targets.old)) (RefusesFolder (S.file_text sources.now) (S.standard_text sources.now) plan.now sessions.now (option_copied journals.entry)) (λ cause. RunsOffices form (S.file_text sources.now) (S.standard_text sources.now) plan.now sessions.now (option_copied journals.entry) (option_copied next.entry) (option_copied left.entry)
+    ensures leaves { IfErr result (Leaves ((out.new ≡ out.old) × (targets.new ≡ targets.old)) (RefusesFolder (S.file_text sources.now) (S.standard_text sources.now) plan.now sessions.now (option_copied journals.entry)) (λ cause. RunsOffices form B.Socket.tells (S.file_text sources.now) (S.standard_text sources.now) plan.now sessions.now (option_copied journals.entry) (option_copied next.entry) (option_copied left.entry)
         (IsCutBy cause) (W.contents out.old) (W.contents out.new) (T.written targets.old) (T.written targets.new))) }
 {
     let plan_word = plan;

@@ -6,16 +6,16 @@ use Rattle.locked_office.specs.Calls.{Key, DeskPass}
 use Rattle.office_stations.specs.declared.fault.RunFault.{RunFault}
 use Rattle.office_stations.specs.Rounds.{Standing, of_office}
 use Rattle.office_runs.specs.refinement.Opening.{IsFor}
-use Rattle.office_runs.specs.Threads.{Worked, Submitted, IsNew, most_turns}
+use Rattle.office_runs.specs.Threads.{WorkedOut, Submitted, IsNew, most_turns}
 
 -- who turned the office of this desk ended so, and this is the pass
-pub record HasWorked (tells : Bool) (desk : LockView Key) (fault : Option RunFault) (q : DeskPass) : Type 0 where
+pub record HasWorked (tells : Bool) (desk : LockView Key) (over : Bool) (fault : Option RunFault) (q : DeskPass) : Type 0 where
   pub idle : IsFor desk 0 q
   pub first : Standing
   pub new : IsNew 0 first.pass × ((v n : ℕ) → first.last v n ≡ None)
   pub last : Standing
   pub is : last.pass ≡ q
-  pub worked : Worked fault tells desk.key most_turns first last
+  pub worked : WorkedOut over fault tells desk.key most_turns first last
 
 -- who submitted its sessions ended so, and this is the pass
 pub record HasSubmitted (desk : LockView Key) (programs : List ProgramValue) (fault : Option RunFault) (q : DeskPass) : Type 0 where

@@ -27,7 +27,7 @@ abbrev pub AddsJournal : Bool → Site → List (List ℕ) → List (List ℕ) �
 AddsJournal true s before after = (after ≡ before ++ text_of s ∷ []) × IsReadBack s
 AddsJournal false s before after = after ≡ before
 
--- One more office is told by a legal journal of it, and so many of its sessions have finished. Each entry there has the tag 0 or 1, and those of either tag are a beginning of what the pass with it added.
+-- One more office is told by a legal journal of it, and so many of its sessions have finished. Each entry there has the tag 0 or 1; those with 0 are all that the pass of who turned it added, and those with 1 a beginning of what the other one did.
 pub record AddsOffice (form : Form) (p : PlanValue) (k : Key) (worker client : List Entry) (before after : Told) (n : ℕ) : Type 0 where
   pub site : Site
   pub key : key_of site ≡ k
@@ -36,5 +36,5 @@ pub record AddsOffice (form : Form) (p : PlanValue) (k : Key) (worker client : L
   pub lines : after.lines ≡ before.lines ++ flat_map (outcome_as form p) (finished_of site)
   pub journal : AddsJournal before.wanted site before.texts after.texts
   pub tags : All (λ (e : Entry). e.tag < 2) site.entries
-  pub turns : IsPrefix (tagged tag_of 0 site.entries) worker
+  pub turns : tagged tag_of 0 site.entries ≡ worker
   pub submits : IsPrefix (tagged tag_of 1 site.entries) client

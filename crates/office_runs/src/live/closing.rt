@@ -1,6 +1,6 @@
 //! What is told of all offices, whose threads have ended.
 
-ghost use Rattle.std.specs.Prelude.{◌≡◌, ◌⊎◌, None, Some, map, All, IfOk, IfSome, IfNone};
+ghost use Rattle.std.specs.Prelude.{◌≡◌, ◌⊎◌, None, Some, false, map, All, IfOk, IfSome, IfNone};
 ghost use Rattle.session_reports.specs.form.Forms.{outcome_as};
 ghost use Rattle.office_stations.specs.declared.fault.RunFault.TheVariants.{NoThread};
 ghost use Rattle.office_runs.specs.Runs.{IsQuiet};
@@ -38,15 +38,35 @@ pub(crate) fn tell_all<R: Wait, S: Socket>(
     let mut report = Report::new(alloc, journals);
     let mut left = programs.len();
     let mut fault = no_thread(first);
+    let mut over = false;
     let mut me = 0u8;
     for end in ended {
         fault = earlier(first, fault, end.broke(), end.stopped());
+        over = either(over, end.over());
         let own = count_of(programs, OfficeId::new(me));
         me = me.saturating_add(1);
         let count = remark_end(rt, alloc, form, plan, end, own, &mut report)?;
         left = left.saturating_sub(count);
     }
+    if is_unaccounted(left, fault, over) {
+        return Err(AllocError);
+    }
     Ok(with_unfinished(report, form, left, fault)?)
+}
+
+/// One of the two.
+fn either(a: bool, b: bool) -> bool
+    ensures { result ≡ false → (a ≡ false) × (b ≡ false) }
+{
+    a || b
+}
+
+/// Whether an office ended as if the run were over, though so many sessions are left and nothing failed. No run comes to that; of one
+/// that did nothing would be told.
+fn is_unaccounted(left: usize, fault: Option<RunFault>, over: bool) -> bool
+    ensures { result ≡ false → fault ≡ None → (left ≡ 0) ⊎ (over ≡ false) }
+{
+    left > 0 && fault.is_none() && over
 }
 
 /// That a thread couldn't be started, if that was the first.
@@ -125,6 +145,7 @@ fn add_end<R: Wait, S: Socket>(
     let WorkerEnd {
         pass: worker,
         fault: _,
+        over: _,
         ways: _,
     } = worker;
     let ClientEnd {

@@ -87,9 +87,9 @@ impl<'x, S: Socket> Model for Ended<'x, S> {
 
     ghost coded = { Prim.hlevel (codes, program.the_row.coded) };
 
-    ghost view = { λ e. record { duty = record { key = opened_key e.office; programs = e.programs.now }; broke = e.worker.fault; stopped = e.client.fault } };
+    ghost view = { λ e. record { duty = record { key = opened_key e.office; programs = e.programs.now }; broke = e.worker.fault; stopped = e.client.fault; over = e.worker.over } };
 
-    ghost invariant = { λ e. HasWorked S.tells (arc_value e.office.desk) e.worker.fault e.worker.pass × HasSubmitted (arc_value e.office.desk) e.programs.now e.client.fault e.client.pass };
+    ghost invariant = { λ e. HasWorked S.tells (arc_value e.office.desk) e.worker.over e.worker.fault e.worker.pass × HasSubmitted (arc_value e.office.desk) e.programs.now e.client.fault e.client.pass };
 }
 
 impl<S: Socket> Ended<'_, S> {
@@ -98,6 +98,13 @@ impl<S: Socket> Ended<'_, S> {
         ensures { result ≡ self.now.broke }
     {
         self.worker.fault
+    }
+
+    /// Whether its turns ended since the run was over.
+    pub(crate) fn over(&self) -> bool
+        ensures { result ≡ self.now.over }
+    {
+        self.worker.over
     }
 
     /// What is known of the ways to its neighbours, as who turned it knew it at its end.

@@ -15,11 +15,12 @@ pub record Duty : Type 0 where
   pub key : Key
   pub programs : List ProgramValue
 
--- and the faults that ended its turns and its sessions
+-- and the faults that ended its turns and its sessions, and whether its turns ended since the run was over
 pub record EndView : Type 0 where
   pub duty : Duty
   pub broke : Option RunFault
   pub stopped : Option RunFault
+  pub over : Bool
 
 abbrev pub duty_of : EndView → Duty
 duty_of e = e.duty
@@ -40,6 +41,7 @@ pub record TellsEnd (tells : Bool) (line : Outcome → List ℕ) (e : EndView) (
   pub is : IsCourse tells e.duty.programs course
   pub broke : course.broke ≡ e.broke
   pub stopped : course.stopped ≡ e.stopped
+  pub over : course.over ≡ e.over
   pub count : finished ≡ length (finished_of course.site)
   pub lines : new.lines ≡ old.lines ++ flat_map line (finished_of course.site)
   pub journal : AddsJournal old.wanted course.site old.texts new.texts

@@ -9,4 +9,4 @@ pub returns-clause-told : goal.returns-clause-told
 returns-clause-told g c =
     let o = c.end.inside in
     subst (λ e. IfOk c.add_office.result (λ n. TellsEnd g.S.Wire.tells (outcome_as c.args.form c.args.plan.now) e n c.args.report.now c.add_office.new.report)) c.end.view_is
-    (ends_told c.steps_add_their_entry.ensures c.args.form g.S.Wire.tells c.args.plan.now (arc_value o.office.desk) o.programs.now o.worker.fault o.client.fault o.worker.pass o.client.pass c.args.report.now c.add_office.new.report c.add_office.result c.end.invariant.0 c.end.invariant.1 c.add_office.ensures.told)
+    (ends_told c.steps_add_their_entry.ensures c.args.form g.S.Wire.tells c.args.plan.now (arc_value o.office.desk) o.programs.now o.worker.fault o.client.fault o.worker.over o.worker.pass o.client.pass c.args.report.now c.add_office.new.report c.add_office.result c.end.invariant.0 c.end.invariant.1 c.add_office.ensures.told)
