@@ -188,6 +188,7 @@ fn escaped(alloc: Global, name: &str) -> Result<String, AllocError> {
 /// command line.
 pub fn misused<W: Write>(alloc: Global, error: &clap::Error, out: &mut W) -> Exit
     ensures shown { result.status ≡ 0 → IsShown (kind_of error.now) }
+    ensures failed { result.status ≡ 1 → IsShown (kind_of error.now) ⊎ (out.new ≡ out.old) }
     ensures unwritten { result.status ≡ 2 → out.new ≡ out.old }
 {
     match error.kind() {
